@@ -1,0 +1,5 @@
+pub mod Universe
+pub mod Inclusion
+pub mod Table
+pub mod Meaning
+pub mod Ratio
