@@ -16,5 +16,8 @@ pub use object::{Object, Shape};
 pub use rat::Rat;
 pub use sqlite_items::{Boxed, Items};
 pub use symbol::Symbol;
-pub use table::{Code, Entry, TABLE_LEN, UPGRADING_TABLE};
+pub use table::{
+    BASE_CHAR_PLACE, BIT_PLACE, CHARACTER_PLACE, Code, Entry, NIL_PLACE, T_PLACE, TABLE_LEN,
+    UPGRADING_TABLE,
+};
 pub use text::Text;

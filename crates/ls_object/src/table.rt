@@ -58,19 +58,34 @@ pub struct Code {
     pub ghost in_table: { index < TABLE_LEN },
 }
 
+/// The place of NIL.
+pub const NIL_PLACE: u8 = 0;
+
+/// The place of BIT.
+pub const BIT_PLACE: u8 = 1;
+
+/// The place of BASE-CHAR.
+pub const BASE_CHAR_PLACE: u8 = 14;
+
+/// The place of CHARACTER.
+pub const CHARACTER_PLACE: u8 = 15;
+
+/// The place of T.
+pub const T_PLACE: u8 = 18;
+
 impl Code {
-    /// The place of NIL.
-    pub const NIL: Code = Code { index: 0 };
+    /// The code of arrays that can hold nothing.
+    pub const NIL: Code = Code { index: NIL_PLACE };
 
-    /// The place of BIT.
-    pub const BIT: Code = Code { index: 1 };
+    /// The code of bit arrays.
+    pub const BIT: Code = Code { index: BIT_PLACE };
 
-    /// The place of BASE-CHAR.
-    pub const BASE_CHAR: Code = Code { index: 14 };
+    /// The code of base strings.
+    pub const BASE_CHAR: Code = Code { index: BASE_CHAR_PLACE };
 
-    /// The place of CHARACTER.
-    pub const CHARACTER: Code = Code { index: 15 };
+    /// The code of strings of any characters.
+    pub const CHARACTER: Code = Code { index: CHARACTER_PLACE };
 
-    /// The place of T.
-    pub const ALL: Code = Code { index: 18 };
+    /// The code of arrays that can hold every object.
+    pub const ALL: Code = Code { index: T_PLACE };
 }

@@ -1,0 +1,3 @@
+pub mod TruthLemmas
+pub mod AlikeLemmas
+pub mod ApproximationLemmas

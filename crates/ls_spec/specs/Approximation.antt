@@ -1,0 +1,37 @@
+-- The lower and the upper approximation of a specifier, in which no predicate stands outside element types.
+use Rattle.std.specs.Prelude.{Bool, true, false, not, if◌then◌else◌}
+use Rattle.ls_spec.specs.Specifier.{Specifier, all_objects, no_objects, and_of, or_of, not_of, eql_to, range_of, chars_of, symbols_of, kind_of, structure_under, any_structure, array_any, array_of, string_of, cons_of, satisfies, Specifiers, no_more, also}
+
+-- Each predicate outside element types is made T where `upper` is true and NIL where it is false. NOT
+-- turns this round. Element types stay.
+abbrev mutual
+  pub bounded : Bool → Specifier → Specifier
+  bounded upper (and_of ss) = and_of (bounded_all upper ss)
+  bounded upper (or_of ss) = or_of (bounded_all upper ss)
+  bounded upper (not_of s) = not_of (bounded (not upper) s)
+  bounded upper (cons_of a b) = cons_of (bounded upper a) (bounded upper b)
+  bounded upper (satisfies p) = if upper then all_objects else no_objects
+  bounded upper all_objects = all_objects
+  bounded upper no_objects = no_objects
+  bounded upper (eql_to p) = eql_to p
+  bounded upper (range_of k lo hi) = range_of k lo hi
+  bounded upper (chars_of k) = chars_of k
+  bounded upper (symbols_of k) = symbols_of k
+  bounded upper (kind_of k) = kind_of k
+  bounded upper (structure_under name) = structure_under name
+  bounded upper any_structure = any_structure
+  bounded upper (array_any simple dims) = array_any simple dims
+  bounded upper (array_of e simple dims) = array_of e simple dims
+  bounded upper (string_of simple dim) = string_of simple dim
+
+  pub bounded_all : Bool → Specifiers → Specifiers
+  bounded_all upper no_more = no_more
+  bounded_all upper (also s ss) = also (bounded upper s) (bounded_all upper ss)
+
+-- what belongs to the specifier whatever its predicates mean
+abbrev pub low : Specifier → Specifier
+low s = bounded false s
+
+-- what may belong to it under some meaning of them
+abbrev pub high : Specifier → Specifier
+high s = bounded true s

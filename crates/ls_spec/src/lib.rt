@@ -1,0 +1,10 @@
+//! Type specifiers (4.2.3), and which objects belong to them. What a reader must believe stands in
+//! `specs/`; `belongs` is the plain test of one object.
+#![tactic(auto)]
+
+mod spec;
+mod membership;
+
+
+pub use membership::belongs;
+pub use spec::{Bound, CharClass, DimPattern, Point, RangeKind, Spec, SymClass};
