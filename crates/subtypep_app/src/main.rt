@@ -1,0 +1,7 @@
+//! Answers SUBTYPEP queries in the text of a Lisp file, from standard input to standard output.
+#![tactic(auto)]
+
+mod answer;
+mod integers;
+
+fn main() {}
