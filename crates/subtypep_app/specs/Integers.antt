@@ -2,7 +2,8 @@
 use Rattle.std.specs.Prelude.{◌≡◌, ℕ, ℤ, pos, ◌+ℤ◌, ◌≤◌, ◌<◌, ◌^◌, ◌<ℤ◌, List, [], ◌∷◌, ◌++◌, unsigned_abs}
 use Rattle.std.specs.List.{AllByRecursion}
 use Rattle.ls_object.specs.declared.rat.Rat.{Rat}
-use Rattle.ls_object.specs.Universe.{LispObject, node, number, Structures}
+use Rattle.ls_object.specs.declared.symbol.Symbol.{Symbol}
+use Rattle.ls_object.specs.Universe.{LispObject, node, number, symbol, Structures, IsObject, IsPlain, IsName}
 use Rattle.ls_spec.specs.declared.spec.Point.{Point}
 use Rattle.ls_spec.specs.declared.spec.Point.TheVariants as point
 use Rattle.ls_spec.specs.declared.spec.RangeKind.TheVariants.{Integer}
@@ -84,3 +85,15 @@ Separates a b o = (structures : Structures) → Belongs structures a o × (Belon
 -- the object is in the second type if it is in the first
 abbrev pub Passes : Specifier → Specifier → LispObject → Type 0
 Passes a b o = (structures : Structures) → Belongs structures a o → Belongs structures b o
+
+-- such an object of any structure list, without marks
+pub record IsSeparating (a b : Specifier) (o : LispObject) : Type 0 where
+  pub is_object : (structures : Structures) → IsObject structures o
+  pub is_plain : IsPlain o
+  pub separates : Separates a b o
+
+-- a symbol without marks: it stands for all objects that are no integers
+pub record IsOther (o : LispObject) : Type 0 where
+  pub name : Symbol
+  pub is : o ≡ node [] (symbol name)
+  pub is_name : IsName name

@@ -3,5 +3,6 @@
 
 mod answer;
 mod integers;
+mod decide;
 
 fn main() {}
