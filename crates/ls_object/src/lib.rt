@@ -2,13 +2,13 @@
 //! shape. Each stands for an object of the universe without bound that `specs/Universe.antt` defines.
 #![tactic(auto)]
 
-mod text;
-mod symbol;
-mod rat;
 mod dims;
 mod kind;
-mod table;
 mod object;
+mod rat;
+mod symbol;
+mod table;
+mod text;
 
 pub use dims::Dims;
 pub use kind::Kind;
