@@ -9,6 +9,7 @@ mod rat;
 mod symbol;
 mod table;
 mod text;
+mod write;
 
 pub use dims::Dims;
 pub use kind::Kind;
