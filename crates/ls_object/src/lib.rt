@@ -14,8 +14,11 @@ mod write;
 pub use dims::Dims;
 pub use kind::Kind;
 pub use object::{Object, Shape};
-pub use rat::Rat;
+pub use rat::{DENOMINATOR_LIMIT, NUMERATOR_LIMIT, Rat};
 pub use sqlite_items::{Boxed, Items};
 pub use symbol::Symbol;
 pub use table::{Code, Entry, TABLE_LEN, UPGRADING_TABLE};
 pub use text::Text;
+
+#[cfg(test)]
+mod tests;

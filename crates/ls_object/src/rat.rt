@@ -38,7 +38,7 @@ impl Rat {
         })
     }
 
-    /// The integer of that value.
+    /// The integer of this value.
     pub fn integer(value: i128) -> Rat
         requires { unsigned_abs value < NUMERATOR_LIMIT }
         ensures num { result.num ≡ value }
@@ -47,6 +47,7 @@ impl Rat {
         Rat { num: value, den: 1 }
     }
 
+    /// Whether it is an integer.
     pub fn is_integer(&self) -> bool
         ensures { IsTrue result ↔ (self.now.den ≡ 1) }
     {
