@@ -3,3 +3,5 @@ pub mod Inclusion
 pub mod Table
 pub mod Meaning
 pub mod Ratio
+pub mod ObjectText
+pub mod Writing

@@ -2,18 +2,19 @@
 //! shape. Each stands for an object of the universe without bound that `specs/Universe.antt` defines.
 #![tactic(auto)]
 
-mod text;
-mod symbol;
-mod rat;
 mod dims;
 mod kind;
-mod table;
 mod object;
+mod rat;
+mod symbol;
+mod table;
+mod text;
+mod write;
 
 pub use dims::Dims;
 pub use kind::Kind;
 pub use object::{Object, Shape};
-pub use rat::Rat;
+pub use rat::{DENOMINATOR_LIMIT, NUMERATOR_LIMIT, Rat};
 pub use sqlite_items::{Boxed, Items};
 pub use symbol::Symbol;
 pub use table::{
@@ -21,3 +22,6 @@ pub use table::{
     UPGRADING_TABLE,
 };
 pub use text::Text;
+
+#[cfg(test)]
+mod tests;

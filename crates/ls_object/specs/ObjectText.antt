@@ -1,0 +1,152 @@
+-- The printed text of a plain object, as the codes of its characters (22.1.3, with #< > for what can't be read).
+use Rattle.std.specs.Prelude.{ℕ, zero, suc, ℤ, ◌+◌, ◌/◌, ◌%◌, ◌^◌, List, [], ◌∷◌, ◌++◌, Bool, true, false, not, ◌&&◌, ◌||◌, ◌==◌, Option, Some, None, slice_get, codes, decimal, if◌then◌else◌, nat_le, nat_lt, nat_eq}
+use Rattle.std.specs.List.{list_all, list_any, flat_map}
+use Rattle.std.specs.Fmt.{signed_decimal}
+use Rattle.std.specs.Cmp.Lexicographic.{pointwise}
+use Rattle.ls_object.specs.declared.symbol.Symbol.{Symbol}
+use Rattle.ls_object.specs.declared.kind.Kind.{Kind}
+use Rattle.ls_object.specs.declared.kind.Kind.TheVariants.{SingleFloat, DoubleFloat, Complex, Function, CompiledFunction, HashTable, Readtable, Package, Pathname, LogicalPathname, Stream, RandomState, Condition, Restart, OtherStructure, Other}
+use Rattle.ls_object.specs.declared.table.Entry.{Entry}
+use Rattle.ls_object.specs.declared.table.Entry.TheVariants.{Nil, Bit, UnsignedByte, SignedByte, BaseChar, Character, OfKind, T}
+use Rattle.ls_object.specs.declared.table.TheConstants.{UPGRADING_TABLE}
+use Rattle.ls_object.specs.Universe.{LispObject, node, LispShape, number, character, symbol, pair, array, structure, opaque}
+
+-- the rational n/d in decimal, an integer without a denominator (22.1.3.1)
+abbrev pub number_text : ℤ → ℕ → List ℕ
+number_text n d = if d == 1 then signed_decimal n else signed_decimal n ++ codes "/" ++ decimal d
+
+-- a digit below 16, with capital letters
+abbrev pub hexadecimal_digit : ℕ → ℕ
+hexadecimal_digit n = if nat_lt n 10 then 48 + n else 55 + n
+
+-- the last hexadecimal digits of n, as many as the count says
+abbrev pub hexadecimal : ℕ → ℕ → List ℕ
+hexadecimal zero n = []
+hexadecimal (suc count) n = hexadecimal count (n / 16) ++ hexadecimal_digit (n % 16) ∷ []
+
+-- the number of hexadecimal digits of a character's code, at least four
+abbrev pub code_digits : ℕ → ℕ
+code_digits c = if nat_lt c (16 ^ 4) then 4 else (if nat_lt c (16 ^ 5) then 5 else 6)
+
+-- the name of a character (13.1.7); one without a name is itself, or its code
+abbrev pub character_name : ℕ → List ℕ
+character_name c =
+    if c == 8 then codes "Backspace" else (if c == 9 then codes "Tab"
+    else (if c == 10 then codes "Newline" else (if c == 12 then codes "Page"
+    else (if c == 13 then codes "Return" else (if c == 32 then codes "Space"
+    else (if c == 127 then codes "Rubout" else (if nat_lt 32 c && nat_lt c 127 then c ∷ []
+    else codes "U+" ++ hexadecimal (code_digits c) c)))))))
+
+abbrev pub character_text : ℕ → List ℕ
+character_text c = codes "#\\" ++ character_name c
+
+-- a capital letter, from A to Z
+abbrev pub is_capital : ℕ → Bool
+is_capital c = nat_le 65 c && nat_le c 90
+
+-- a digit, from 0 to 9
+abbrev pub is_digit : ℕ → Bool
+is_digit c = nat_le 48 c && nat_le c 57
+
+-- a character that a name without bars may have
+abbrev pub is_bare_char : ℕ → Bool
+is_bare_char c = is_capital c || is_digit c || list_any (λ x. x == c) (codes "+-*/<>=!?$%&_~^.")
+
+-- a character that a name without bars doesn't begin with
+abbrev pub is_barred_start : ℕ → Bool
+is_barred_start c = is_digit c || list_any (λ x. x == c) (codes "+-./")
+
+-- the name is printed without bars
+abbrev pub is_bare : List ℕ → Bool
+is_bare [] = false
+is_bare (c ∷ cs) = not (is_barred_start c) && list_all is_bare_char (c ∷ cs)
+
+-- a character between bars: a bar and a backslash have a backslash before them (2.3.4)
+abbrev pub escaped : ℕ → List ℕ
+escaped c = if (c == 124) || (c == 92) then 92 ∷ c ∷ [] else c ∷ []
+
+-- a name, or a package's name
+abbrev pub name_text : List ℕ → List ℕ
+name_text cs = if is_bare cs then cs else codes "|" ++ flat_map escaped cs ++ codes "|"
+
+abbrev pub is_text : List ℕ → List ℕ → Bool
+is_text = pointwise nat_eq
+
+-- a symbol (22.1.3.3), with its package unless that is COMMON-LISP
+abbrev pub symbol_text : Symbol → List ℕ
+symbol_text s =
+    if is_text s.package (codes "COMMON-LISP") then name_text s.name
+    else (if is_text s.package (codes "KEYWORD") then codes ":" ++ name_text s.name
+    else name_text s.package ++ codes "::" ++ name_text s.name)
+
+-- the symbol NIL, which ends a list
+abbrev pub is_nil : Symbol → Bool
+is_nil s = is_text s.package (codes "COMMON-LISP") && is_text s.name (codes "NIL")
+
+abbrev pub kind_text : Kind → List ℕ
+kind_text SingleFloat = codes "SINGLE-FLOAT"
+kind_text DoubleFloat = codes "DOUBLE-FLOAT"
+kind_text Complex = codes "COMPLEX"
+kind_text Function = codes "FUNCTION"
+kind_text CompiledFunction = codes "COMPILED-FUNCTION"
+kind_text HashTable = codes "HASH-TABLE"
+kind_text Readtable = codes "READTABLE"
+kind_text Package = codes "PACKAGE"
+kind_text Pathname = codes "PATHNAME"
+kind_text LogicalPathname = codes "LOGICAL-PATHNAME"
+kind_text Stream = codes "STREAM"
+kind_text RandomState = codes "RANDOM-STATE"
+kind_text Condition = codes "CONDITION"
+kind_text Restart = codes "RESTART"
+kind_text OtherStructure = codes "OTHER-STRUCTURE"
+kind_text Other = codes "OTHER"
+
+-- an entry of the upgrading table, as the specifier that it stands for
+abbrev pub entry_text : Entry → List ℕ
+entry_text Nil = codes "NIL"
+entry_text Bit = codes "BIT"
+entry_text (UnsignedByte bits) = codes "(UNSIGNED-BYTE " ++ decimal bits ++ codes ")"
+entry_text (SignedByte bits) = codes "(SIGNED-BYTE " ++ decimal bits ++ codes ")"
+entry_text BaseChar = codes "BASE-CHAR"
+entry_text Character = codes "CHARACTER"
+entry_text (OfKind k) = kind_text k
+entry_text T = codes "T"
+
+abbrev pub text_of_entry : Option Entry → List ℕ
+text_of_entry None = []
+text_of_entry (Some entry) = entry_text entry
+
+-- the entry at a place of the table
+abbrev pub code_text : ℕ → List ℕ
+code_text code = text_of_entry (slice_get UPGRADING_TABLE code)
+
+-- the numbers with one space between
+abbrev pub spaced : List ℕ → List ℕ
+spaced [] = []
+spaced (n ∷ ns) = decimal n ++ flat_map (λ m. codes " " ++ decimal m) ns
+
+abbrev pub dimensions_text : List ℕ → List ℕ
+dimensions_text dims = codes "(" ++ spaced dims ++ codes ")"
+
+abbrev pub simple_text : Bool → List ℕ
+simple_text simple = if simple then codes " SIMPLE" else []
+
+abbrev mutual
+  -- the printed text of an object without its marks
+  pub object_text : LispObject → List ℕ
+  object_text (node marks shape) = shape_text shape
+
+  pub shape_text : LispShape → List ℕ
+  shape_text (number n d) = number_text n d
+  shape_text (character c) = character_text c
+  shape_text (symbol s) = symbol_text s
+  shape_text (pair car cdr) = codes "(" ++ object_text car ++ rest_text cdr
+  shape_text (array code simple dims) = codes "#<ARRAY " ++ code_text code ++ codes " " ++ dimensions_text dims ++ simple_text simple ++ codes ">"
+  shape_text (structure s) = codes "#<STRUCTURE " ++ symbol_text s ++ codes ">"
+  shape_text (opaque k) = codes "#<" ++ kind_text k ++ codes ">"
+
+  -- what stands behind a car whose cdr this is (22.1.3.5)
+  pub rest_text : LispObject → List ℕ
+  rest_text (node marks (pair car cdr)) = codes " " ++ object_text car ++ rest_text cdr
+  rest_text (node marks (symbol s)) = if is_nil s then codes ")" else codes " . " ++ symbol_text s ++ codes ")"
+  rest_text (node marks shape) = codes " . " ++ shape_text shape ++ codes ")"
