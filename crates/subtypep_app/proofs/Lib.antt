@@ -1,2 +1,3 @@
 mod NearestLemmas
 mod IntegerLaw
+mod SeparatingLemmas

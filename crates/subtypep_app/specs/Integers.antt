@@ -1,9 +1,9 @@
 -- Specifiers of integers, and the integers at which membership in them may change.
-use Rattle.std.specs.Prelude.{◌≡◌, ℕ, ℤ, pos, ◌+ℤ◌, ◌≤◌, ◌<◌, ◌^◌, ◌<ℤ◌, List, [], ◌∷◌, ◌++◌, unsigned_abs}
+use Rattle.std.specs.Prelude.{◌≡◌, ℕ, ℤ, pos, ◌+ℤ◌, ◌≤◌, ◌<◌, ◌^◌, ◌<ℤ◌, List, [], ◌∷◌, ◌++◌, codes, unsigned_abs}
 use Rattle.std.specs.List.{AllByRecursion}
 use Rattle.ls_object.specs.declared.rat.Rat.{Rat}
 use Rattle.ls_object.specs.declared.symbol.Symbol.{Symbol}
-use Rattle.ls_object.specs.Universe.{LispObject, node, number, symbol, Structures, IsObject, IsPlain, IsName}
+use Rattle.ls_object.specs.Universe.{LispObject, node, number, symbol, Structures, IsObject, IsPlain}
 use Rattle.ls_spec.specs.declared.spec.Point.{Point}
 use Rattle.ls_spec.specs.declared.spec.Point.TheVariants as point
 use Rattle.ls_spec.specs.declared.spec.RangeKind.TheVariants.{Integer}
@@ -92,8 +92,9 @@ pub record IsSeparating (a b : Specifier) (o : LispObject) : Type 0 where
   pub is_plain : IsPlain o
   pub separates : Separates a b o
 
--- a symbol without marks: it stands for all objects that are no integers
-pub record IsOther (o : LispObject) : Type 0 where
-  pub name : Symbol
-  pub is : o ≡ node [] (symbol name)
-  pub is_name : IsName name
+-- the symbol NIL, which stands for all objects that are no integers
+abbrev pub nil_name : Symbol
+nil_name = record { «package» = codes "COMMON-LISP"; name = codes "NIL" }
+
+abbrev pub nil : LispObject
+nil = node [] (symbol nil_name)
