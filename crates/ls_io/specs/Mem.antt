@@ -19,8 +19,8 @@ pub record SourceState : Type 0 where
   pub calls : ℕ
   pub faults : ℕ
 
--- A sink over memory: the bytes that were written, for how many there is memory in all, how many a call
--- takes at most, the numbers of the calls that are to fail, how many calls were made, and how many of these failed.
+-- A sink over memory: the bytes that were written, for how many there is memory in all, how many a call takes
+-- at most, the numbers of the calls that are to fail, how many calls were made, and how many of these failed.
 pub record SinkState : Type 0 where
   pub bytes : List ℕ
   pub room : ℕ
@@ -39,7 +39,8 @@ write_count sink size = min sink.piece size
 
 -- Whether a write of so many bytes fails: it is to fail, or the bytes that it would take pass the room.
 abbrev pub is_write_failing : SinkState → ℕ → Bool
-is_write_failing sink size = is_next_failing sink.failing sink.calls || nat_lt sink.room (length sink.bytes + write_count sink size)
+is_write_failing sink size = is_next_failing sink.failing sink.calls
+    || nat_lt sink.room (length sink.bytes + write_count sink size)
 
 -- No write is to fail, and so many more bytes stay within the room.
 abbrev pub IsRoomFor : SinkState → ℕ → Type 0
@@ -49,14 +50,19 @@ IsRoomFor sink count = (sink.failing ≡ []) × (length sink.bytes + count ≤ s
 -- else moves one piece of what is left into the buffer. Nothing else changes but the counts.
 abbrev pub ReadsPiece : {E : Type 0} → SourceState → SourceState → Result ℕ E → List ℕ → Type 0
 ReadsPiece old new result buf = MatchResult result
-    (λ n. (is_next_failing old.failing old.calls ≡ false) × (n ≡ read_count old (length buf)) × (take n buf ≡ take n old.left)
+    (λ n. (is_next_failing old.failing old.calls ≡ false)
+    × (n ≡ read_count old (length buf))
+    × (take n buf ≡ take n old.left)
     × (new ≡ record old { left = drop n old.left; calls = raised old.calls }))
-    (λ _. (is_next_failing old.failing old.calls ≡ true) × (new ≡ record old { calls = raised old.calls; faults = raised old.faults }))
+    (λ _. (is_next_failing old.failing old.calls ≡ true)
+    × (new ≡ record old { calls = raised old.calls; faults = raised old.faults }))
 
 -- One call of `write`: it fails exactly where it is to fail or the room is passed, and else appends one piece
 -- of the bytes. Nothing else changes but the counts.
 abbrev pub WritesPiece : {E : Type 0} → SinkState → SinkState → Result ℕ E → List ℕ → Type 0
 WritesPiece old new result bytes = MatchResult result
-    (λ n. (is_write_failing old (length bytes) ≡ false) × (n ≡ write_count old (length bytes))
+    (λ n. (is_write_failing old (length bytes) ≡ false)
+    × (n ≡ write_count old (length bytes))
     × (new ≡ record old { bytes = old.bytes ++ take n bytes; calls = raised old.calls }))
-    (λ _. (is_write_failing old (length bytes) ≡ true) × (new ≡ record old { calls = raised old.calls; faults = raised old.faults }))
+    (λ _. (is_write_failing old (length bytes) ≡ true)
+    × (new ≡ record old { calls = raised old.calls; faults = raised old.faults }))

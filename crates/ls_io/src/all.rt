@@ -36,7 +36,8 @@ impl From<AllocError> for ReadFault {
 
 /// Reads a source to its end. `Ok` is all that was left, at most `LIMIT` bytes.
 ///
-/// It ends after at most `LIMIT + 2` calls of `read`, since each call but the last gives a byte at least.
+/// It ends after at most `LIMIT + 1` calls of `read`: each call but the last gives a byte at least, and these
+/// bytes are at most `LIMIT`.
 pub fn read_all<S: Source>(alloc: Global, source: &mut S) -> Result<Vec<u8>, ReadFault>
     // The answer is all that was left, and nothing is left then.
     ensures all { IfOk result (λ text. Gave (S.left source.old) (S.left source.new) text.items) }

@@ -20,7 +20,7 @@ pub trait Source {
     /// How many calls of `read` failed so far.
     ghost failures: { Self → ℕ };
 
-    /// No later call of `read` will fail. A source that cannot know this claims it of no value.
+    /// No later call of `read` will fail. A source that cannot know this never claims it.
     ghost is_sound: { Self → Type 0 } = { λ _. ⊥ };
 
     /// How many calls of `read` failed so far. The count never falls, and stands still at the greatest `u64`.
@@ -49,7 +49,7 @@ pub trait Sink {
     /// How many calls of `write` failed so far.
     ghost failures: { Self → ℕ };
 
-    /// So many more bytes can be written with no failure. A sink that cannot know this claims it of no number.
+    /// So many more bytes can be written with no failure. A sink that cannot know this never claims it.
     ghost has_room: { Self → ℕ → Type 0 } = { λ _ _. ⊥ };
 
     /// How many calls of `write` failed so far. The count never falls, and stands still at the greatest `u64`.

@@ -20,11 +20,13 @@ returns-then-len-count-gt-LIMIT-clause-too_long g c = λ _. (
   Gave-append _ _ _ _ _ c.loop-bytes.invariant.given c.in-Ok.ensures.bytes.0,
 )
 
+-- the bytes before this call and those of this call were given together
 pub returns-then-len-count-gt-LIMIT-clause-refused :
     goal.returns-then-len-count-gt-LIMIT-clause-refused
 returns-then-len-count-gt-LIMIT-clause-refused g c =
     (_, Gave-append _ _ _ _ _ c.loop-bytes.invariant.given c.in-Ok.ensures.bytes.0)
 
+-- the same where there is no memory for the bytes of this call
 pub returns-in_err-extend_from_slice-in-Ok-clause-refused :
     goal.returns-in_err-extend_from_slice-in-Ok-clause-refused
 returns-in_err-extend_from_slice-in-Ok-clause-refused g c =

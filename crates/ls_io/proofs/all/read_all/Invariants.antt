@@ -2,6 +2,7 @@ use Rattle.std.proofs.Common.{◌≡◌, ◌-◌, ◌+◌, ◌≤◌, vec_len}
 use Rattle.ls_io.specs.Moves.{limit, Gave}
 use Rattle.ls_io.proofs.all.read_all.Given as goal
 
+-- the source gave the bytes so far, which are within the limit, and a sound source has not failed
 abbrev pub invariant-loop-bytes : goal.invariant-loop-bytes
 invariant-loop-bytes g l = record {
   within : vec_len l.bytes ≤ limit;

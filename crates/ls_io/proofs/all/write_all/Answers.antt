@@ -3,6 +3,7 @@ use Rattle.std.proofs.lemmas.List.{length-take}
 use Rattle.ls_io.proofs.MovesLemmas.{Took-more}
 use Rattle.ls_io.proofs.all.write_all.Goals as goal
 
+-- one more piece is written, and the room that is left is less by its length
 pub loop-at-preserved : goal.loop-at-preserved
 loop-at-preserved g c = record {
   within = omega (arith, c.in-Ok.ensures);
