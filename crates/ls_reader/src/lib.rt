@@ -16,3 +16,6 @@ mod token;
 pub use datum::{Datum, FloatFormat, Form, Literal, Span};
 pub use fault::ReadError;
 pub use reader::{one_answer, read_text};
+
+#[cfg(test)]
+mod tests;
