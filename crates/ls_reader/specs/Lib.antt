@@ -1,0 +1,11 @@
+pub mod Characters
+pub mod Places
+pub mod Numbers
+pub mod Tokens
+pub mod Lexing
+pub mod Machine
+pub mod Lexemes
+pub mod Trees
+pub mod Forms
+pub mod Answers
+pub mod Running

@@ -1,0 +1,58 @@
+-- A reader's turn: it takes the lexeme at the front.
+use Rattle.std.specs.Prelude.{ℕ, ◌+◌, ◌-◌, ◌*◌, ◌^◌, ◌≤◌, ◌≡◌, List, length, take, Result, Ok, Err}
+use Rattle.ls_reader.specs.declared.place.Place.{Place}
+use Rattle.ls_reader.specs.declared.builder.Builder.{Builder}
+use Rattle.ls_reader.specs.declared.fault.FaultKind.{FaultKind}
+use Rattle.ls_reader.specs.declared.fault.Failure.{Failure}
+use Rattle.ls_reader.specs.declared.fault.Failure.TheVariants as failure
+use Rattle.ls_reader.specs.declared.fault.Stop.{Stop}
+use Rattle.ls_reader.specs.declared.fault.Stop.TheVariants as stop
+use Rattle.ls_reader.specs.declared.reader.Reader.{Reader}
+use Rattle.ls_reader.specs.declared.token.Token.{Token}
+use Rattle.ls_reader.specs.Places.{after_all}
+use Rattle.ls_reader.specs.Lexing.{lexeme}
+use Rattle.ls_reader.specs.Machine.{step, Found, FailsWith}
+
+-- what is left, from where on, and what was read
+pub record Reading : Type 0 where
+  pub at : Place
+  pub rest : List ℕ
+  pub builder : Builder
+
+-- what a reader holds
+abbrev pub reading : Reader → Reading
+reading r = record { at = r.place; rest = r.rest.now; builder = r.builder }
+
+-- the text before what is left
+abbrev pub used : List ℕ → List ℕ → List ℕ
+used cs more = take (length cs - length more) cs
+
+-- what is read with a builder as a step leaves it
+abbrev pub stepped : Place → List ℕ → Result Builder Found → Result Reading Found
+stepped at rest (Ok b) = Ok (record { at = at; rest = rest; builder = b })
+stepped at rest (Err x) = Err x
+
+-- what is read once a lexeme is found
+abbrev pub taken : Reading → Result (Token × List ℕ) FaultKind → Result Reading Found
+taken r (Ok x) = let to = after_all r.at (used r.rest x.1) in stepped to x.1 (step r.at to x.0 r.builder)
+taken r (Err k) = Err (k, r.at)
+
+-- what is read with one lexeme more
+abbrev pub advance : Reading → Result Reading Found
+advance r = taken r (lexeme r.rest)
+
+-- What a method of a reader answered, and left, is what the turn gives, unless memory ran out.
+abbrev pub Turns : {U : Type 0} → Result U Failure → Reader → Result Reading Found → Type 0
+Turns (Ok u) new turn = turn ≡ Ok (reading new)
+Turns (Err e) new turn = FailsWith e turn
+
+-- the numbers of each place in what is left are below 2 ^ 28
+pub record IsSmall (at : Place) (rest : List ℕ) : Type 0 where
+  pub byte : at.byte + 4 * length rest ≤ 2 ^ 27
+  pub line : at.line + length rest ≤ 2 ^ 27
+  pub column : at.column + length rest ≤ 2 ^ 27
+
+-- the failure at a place, from what stopped the lexer there
+abbrev pub failure_at : Stop → Place → Failure
+failure_at stop.Memory at = failure.Memory
+failure_at (stop.Fault k) at = failure.Fault k at

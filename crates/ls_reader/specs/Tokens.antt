@@ -1,0 +1,34 @@
+-- What a token is (2.3).
+use Rattle.std.specs.Prelude.{ℕ, if◌then◌else◌, List, [], ◌∷◌, map}
+use Rattle.std.specs.Char.{to_ascii_uppercase}
+use Rattle.ls_object.specs.declared.symbol.Symbol.{Symbol}
+use Rattle.ls_reader.specs.declared.datum.Form.{Form, roll-Form}
+use Rattle.ls_reader.specs.declared.datum.Form.TheOpen.{Form-F}
+use Rattle.ls_reader.specs.declared.fault.FaultKind.TheVariants.{NotBuilt}
+use Rattle.ls_reader.specs.declared.token.Token.{Token}
+use Rattle.ls_reader.specs.declared.token.Token.TheVariants as token
+use Rattle.ls_reader.specs.Numbers.{is_integer, is_float, is_negative, magnitude, literal_of}
+
+-- COMMON-LISP, the name of the package
+abbrev pub common_lisp : List ℕ
+common_lisp = 67 ∷ 79 ∷ 77 ∷ 77 ∷ 79 ∷ 78 ∷ 45 ∷ 76 ∷ 73 ∷ 83 ∷ 80 ∷ []
+
+-- NIL, the name of the symbol
+abbrev pub nil_name : List ℕ
+nil_name = 78 ∷ 73 ∷ 76 ∷ []
+
+-- the symbol of that name in the package COMMON-LISP
+abbrev pub symbol_named : List ℕ → Symbol
+symbol_named name = record { «package» = common_lisp; name = name }
+
+-- the symbol that a token writes (2.3.4): its letters go to upper case
+abbrev pub symbol_of : List ℕ → Form
+symbol_of text = roll-Form (Form-F.Symbol (symbol_named (map to_ascii_uppercase text)))
+
+-- the integer that a token writes (2.3.1.1)
+abbrev pub number_of : List ℕ → Form
+number_of text = roll-Form (Form-F.Number (literal_of (is_negative text) (magnitude text)))
+
+-- What a token is: an integer, a float, which this reader does not take, or else a symbol.
+unfoldable pub token_of : List ℕ → Token
+token_of text = if is_integer text then token.Atom (number_of text) else (if is_float text then token.Bad NotBuilt else token.Atom (symbol_of text))
