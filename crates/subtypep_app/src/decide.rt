@@ -34,8 +34,8 @@ fn nil_object(alloc: Global) -> Result<Object, AllocError>
     Ok(Object {
         marks: Items::new(alloc),
         shape: Shape::Sym(Symbol {
-            package: Text::of(alloc, "COMMON-LISP")?,
-            name: Text::of(alloc, "NIL")?,
+            package: Text::of_ascii(alloc, "COMMON-LISP")?,
+            name: Text::of_ascii(alloc, "NIL")?,
         }),
     })
 }

@@ -4,5 +4,9 @@
 mod answer;
 mod integers;
 mod decide;
+mod names;
+mod look;
+mod line;
+mod status;
 
 fn main() {}
