@@ -1,3 +1,5 @@
 mod NearestLemmas
 mod IntegerLaw
 mod SeparatingLemmas
+mod DenotingLemmas
+mod IntegerDenotingLemmas

@@ -1,6 +1,5 @@
 -- Which specifier a datum denotes (4.2.3).
 use Rattle.std.specs.Prelude.{ℕ, zero, suc, ◌≡◌, ◌&&◌, ◌==◌, nat_le, Bool, if◌then◌else◌, List, [], ◌∷◌, Option, Some, None, unsigned_abs}
-use Rattle.std.specs.Option.{option_map}
 use Rattle.ls_object.specs.declared.rat.Rat.{Rat}
 use Rattle.ls_reader.specs.declared.datum.Datum.{Datum}
 use Rattle.ls_reader.specs.declared.datum.Form.{Form, out-Form}
@@ -34,9 +33,17 @@ integer_form _ = None
 abbrev pub integer_of : Datum → Option Rat
 integer_of d = integer_form (out-Form d.form)
 
+abbrev pub inclusive : Option Rat → Option Bound
+inclusive (Some r) = Some (Incl r)
+inclusive None = None
+
+abbrev pub exclusive : Option Rat → Option Bound
+exclusive (Some r) = Some (Excl r)
+exclusive None = None
+
 -- a bound of INTEGER that doesn't belong is a list of one integer
 abbrev pub exclusive_bound : List Datum → Option Bound
-exclusive_bound (d ∷ []) = option_map Excl (integer_of d)
+exclusive_bound (d ∷ []) = exclusive (integer_of d)
 exclusive_bound _ = None
 
 abbrev pub named_bound : Word → Option Bound
@@ -45,7 +52,7 @@ named_bound _ = None
 
 abbrev pub bound_form : Form-F Form Datum → Option Bound
 bound_form (Form-F.Symbol s) = named_bound (word_of s)
-bound_form (Form-F.Number n) = option_map Incl (literal_integer n)
+bound_form (Form-F.Number n) = inclusive (literal_integer n)
 bound_form (Form-F.List items) = exclusive_bound items
 bound_form _ = None
 
@@ -132,13 +139,25 @@ abbrev pub each_denoted : (Datum → Option Specifier) → List Datum → Option
 each_denoted denoted_by [] = Some []
 each_denoted denoted_by (d ∷ ds) = with_first (denoted_by d) (each_denoted denoted_by ds)
 
+abbrev pub conjunction : Option (List Specifier) → Option Specifier
+conjunction None = None
+conjunction (Some ss) = Some (and_of (specifiers_of ss))
+
+abbrev pub disjunction : Option (List Specifier) → Option Specifier
+disjunction None = None
+disjunction (Some ss) = Some (or_of (specifiers_of ss))
+
+abbrev pub negation : Option Specifier → Option Specifier
+negation None = None
+negation (Some s) = Some (not_of s)
+
 -- the specifier of a level, if its parts have theirs
 abbrev pub denoted_at : (Datum → Option Specifier) → Level → Option Specifier
 denoted_at denoted_by not_built = None
 denoted_at denoted_by (known s) = Some s
-denoted_at denoted_by (all_of ds) = option_map (λ ss. and_of (specifiers_of ss)) (each_denoted denoted_by ds)
-denoted_at denoted_by (some_of ds) = option_map (λ ss. or_of (specifiers_of ss)) (each_denoted denoted_by ds)
-denoted_at denoted_by (none_of d) = option_map not_of (denoted_by d)
+denoted_at denoted_by (all_of ds) = conjunction (each_denoted denoted_by ds)
+denoted_at denoted_by (some_of ds) = disjunction (each_denoted denoted_by ds)
+denoted_at denoted_by (none_of d) = negation (denoted_by d)
 
 -- the specifier that a datum denotes, nested at most so many levels deep
 unfoldable pub denoted : ℕ → Datum → Option Specifier

@@ -2,6 +2,8 @@ pub mod Answers
 pub mod Integers
 pub mod Names
 pub mod Denoting
+pub mod Looking
 pub mod Queries
+pub mod Asking
 pub mod Statuses
 pub mod Report

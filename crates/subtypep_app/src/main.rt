@@ -6,6 +6,8 @@ mod integers;
 mod decide;
 mod names;
 mod look;
+mod resolve;
+mod query;
 mod line;
 mod status;
 
