@@ -1,5 +1,5 @@
 -- Structure inclusion (DEFSTRUCT, the option :INCLUDE).
-use Rattle.std.specs.Prelude.{List, Option, Some}
+use Rattle.std.specs.Prelude.{Some}
 use Rattle.std.specs.List.{Contains}
 use Rattle.ls_object.specs.declared.symbol.Symbol.{Symbol}
 use Rattle.ls_object.specs.Universe.{Structures}

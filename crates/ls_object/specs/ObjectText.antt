@@ -1,5 +1,6 @@
--- The printed text of a plain object, as the codes of its characters (22.1.3, with #< > for what can't be read).
-use Rattle.std.specs.Prelude.{ℕ, zero, suc, ℤ, ◌+◌, ◌/◌, ◌%◌, ◌^◌, List, [], ◌∷◌, ◌++◌, Bool, true, false, not, ◌&&◌, ◌||◌, ◌==◌, Option, Some, None, slice_get, codes, decimal, if◌then◌else◌, nat_le, nat_lt, nat_eq}
+-- The printed text of a plain object, as the codes of its characters (22.1.3).
+-- What the reader couldn't read back stands between #< and >.
+use Rattle.std.specs.Prelude.{ℕ, zero, suc, ℤ, ◌+◌, ◌/◌, ◌%◌, ◌^◌, List, [], ◌∷◌, ◌++◌, Bool, false, not, ◌&&◌, ◌||◌, ◌==◌, Option, Some, None, slice_get, codes, decimal, if◌then◌else◌, nat_le, nat_lt, nat_eq}
 use Rattle.std.specs.List.{list_all, list_any, flat_map}
 use Rattle.std.specs.Fmt.{signed_decimal}
 use Rattle.std.specs.Cmp.Lexicographic.{pointwise}
@@ -11,9 +12,13 @@ use Rattle.ls_object.specs.declared.table.Entry.TheVariants.{Nil, Bit, UnsignedB
 use Rattle.ls_object.specs.declared.table.TheConstants.{UPGRADING_TABLE}
 use Rattle.ls_object.specs.Universe.{LispObject, node, LispShape, number, character, symbol, pair, array, structure, opaque}
 
+-- a numerator and a denominator in decimal
+abbrev pub ratio_text : ℤ → ℕ → List ℕ
+ratio_text n d = signed_decimal n ++ codes "/" ++ decimal d
+
 -- the rational n/d in decimal, an integer without a denominator (22.1.3.1)
 abbrev pub number_text : ℤ → ℕ → List ℕ
-number_text n d = if d == 1 then signed_decimal n else signed_decimal n ++ codes "/" ++ decimal d
+number_text n d = if d == 1 then signed_decimal n else ratio_text n d
 
 -- a digit below 16, with capital letters
 abbrev pub hexadecimal_digit : ℕ → ℕ
@@ -37,6 +42,7 @@ character_name c =
     else (if c == 127 then codes "Rubout" else (if nat_lt 32 c && nat_lt c 127 then c ∷ []
     else codes "U+" ++ hexadecimal (code_digits c) c)))))))
 
+-- a character (22.1.3.2)
 abbrev pub character_text : ℕ → List ℕ
 character_text c = codes "#\\" ++ character_name c
 
@@ -65,24 +71,38 @@ is_bare (c ∷ cs) = not (is_barred_start c) && list_all is_bare_char (c ∷ cs)
 abbrev pub escaped : ℕ → List ℕ
 escaped c = if (c == 124) || (c == 92) then 92 ∷ c ∷ [] else c ∷ []
 
--- a name, or a package's name
-abbrev pub name_text : List ℕ → List ℕ
-name_text cs = if is_bare cs then cs else codes "|" ++ flat_map escaped cs ++ codes "|"
+-- a name between bars
+abbrev pub barred_text : List ℕ → List ℕ
+barred_text cs = codes "|" ++ flat_map escaped cs ++ codes "|"
 
+-- the name of a symbol or of a package
+abbrev pub name_text : List ℕ → List ℕ
+name_text cs = if is_bare cs then cs else barred_text cs
+
+-- the two texts have the same characters
 abbrev pub is_text : List ℕ → List ℕ → Bool
 is_text = pointwise nat_eq
+
+-- a keyword, by its name
+abbrev pub keyword_text : List ℕ → List ℕ
+keyword_text name = codes ":" ++ name_text name
+
+-- a symbol with its package's name
+abbrev pub qualified_text : List ℕ → List ℕ → List ℕ
+qualified_text package_name name = name_text package_name ++ codes "::" ++ name_text name
 
 -- a symbol (22.1.3.3), with its package unless that is COMMON-LISP
 abbrev pub symbol_text : Symbol → List ℕ
 symbol_text s =
     if is_text s.package (codes "COMMON-LISP") then name_text s.name
-    else (if is_text s.package (codes "KEYWORD") then codes ":" ++ name_text s.name
-    else name_text s.package ++ codes "::" ++ name_text s.name)
+    else (if is_text s.package (codes "KEYWORD") then keyword_text s.name
+    else qualified_text s.package s.name)
 
 -- the symbol NIL, which ends a list
 abbrev pub is_nil : Symbol → Bool
 is_nil s = is_text s.package (codes "COMMON-LISP") && is_text s.name (codes "NIL")
 
+-- the name of a kind
 abbrev pub kind_text : Kind → List ℕ
 kind_text SingleFloat = codes "SINGLE-FLOAT"
 kind_text DoubleFloat = codes "DOUBLE-FLOAT"
@@ -112,6 +132,7 @@ entry_text Character = codes "CHARACTER"
 entry_text (OfKind k) = kind_text k
 entry_text T = codes "T"
 
+-- the text of a place of the table, where it is one
 abbrev pub text_of_entry : Option Entry → List ℕ
 text_of_entry None = []
 text_of_entry (Some entry) = entry_text entry
@@ -125,23 +146,31 @@ abbrev pub spaced : List ℕ → List ℕ
 spaced [] = []
 spaced (n ∷ ns) = decimal n ++ flat_map (λ m. codes " " ++ decimal m) ns
 
+-- the dimensions of an array, () for rank 0
 abbrev pub dimensions_text : List ℕ → List ℕ
 dimensions_text dims = codes "(" ++ spaced dims ++ codes ")"
 
+-- what stands behind the dimensions
 abbrev pub simple_text : Bool → List ℕ
 simple_text simple = if simple then codes " SIMPLE" else []
+
+-- an array: its element type, its dimensions, and whether it is simple
+abbrev pub array_text : ℕ → Bool → List ℕ → List ℕ
+array_text code simple dims =
+    codes "#<ARRAY " ++ code_text code ++ codes " " ++ dimensions_text dims ++ simple_text simple ++ codes ">"
 
 abbrev mutual
   -- the printed text of an object without its marks
   pub object_text : LispObject → List ℕ
   object_text (node marks shape) = shape_text shape
 
+  -- the same, by its shape
   pub shape_text : LispShape → List ℕ
   shape_text (number n d) = number_text n d
   shape_text (character c) = character_text c
   shape_text (symbol s) = symbol_text s
   shape_text (pair car cdr) = codes "(" ++ object_text car ++ rest_text cdr
-  shape_text (array code simple dims) = codes "#<ARRAY " ++ code_text code ++ codes " " ++ dimensions_text dims ++ simple_text simple ++ codes ">"
+  shape_text (array code simple dims) = array_text code simple dims
   shape_text (structure s) = codes "#<STRUCTURE " ++ symbol_text s ++ codes ">"
   shape_text (opaque k) = codes "#<" ++ kind_text k ++ codes ">"
 

@@ -1,9 +1,9 @@
 -- What the entries of the upgrading table hold (15.1.2.1).
-use Rattle.std.specs.Prelude.{◌≡◌, ℕ, ℤ, pos, ◌-◌, ◌<◌, ◌^◌, ◌≤ℤ◌, ◌<ℤ◌, ◌-ℤ◌, Option, Some, None, slice_get}
+use Rattle.std.specs.Prelude.{◌≡◌, ℕ, pos, ◌-◌, ◌<◌, ◌^◌, ◌≤ℤ◌, ◌<ℤ◌, ◌-ℤ◌, Option, Some, None, slice_get}
 use Rattle.ls_object.specs.declared.table.Entry.{Entry}
-use Rattle.ls_object.specs.declared.table.Entry.TheVariants.{Nil, Bit, UnsignedByte, SignedByte, BaseChar, Character, OfKind, T}
+use Rattle.ls_object.specs.declared.table.Entry.TheVariants.{Bit, UnsignedByte, SignedByte, BaseChar, Character, OfKind, T}
 use Rattle.ls_object.specs.declared.table.TheConstants.{UPGRADING_TABLE}
-use Rattle.ls_object.specs.Universe.{LispObject, node, LispShape, number, character, symbol, pair, array, structure, opaque}
+use Rattle.ls_object.specs.Universe.{LispObject, node, LispShape, number, character, opaque}
 
 -- the entry holds the objects of this shape
 abbrev pub EntryHolds : Entry → LispShape → Type 0

@@ -1,6 +1,6 @@
 -- The universe of objects: all that a specifier may be asked about (4.2.2). Numbers, dimensions, ranks and
 -- trees have no bound here.
-use Rattle.std.specs.Prelude.{◌≡◌, ℕ, ℤ, ◌<◌, List, [], ◌∷◌, Bool, Option, unsigned_abs}
+use Rattle.std.specs.Prelude.{◌≡◌, ℕ, ℤ, ◌<◌, List, [], Bool, Option, unsigned_abs}
 use Rattle.std.specs.List.{Contains, AllByRecursion}
 use Rattle.std.specs.Char.{IsScalar}
 use Rattle.std.specs.Int.{IsGcd}

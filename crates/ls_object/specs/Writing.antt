@@ -2,6 +2,7 @@
 use Rattle.std.specs.Prelude.{◌≡◌, ℕ, List, ◌++◌}
 use Rattle.ls_object.specs.Universe.{LispObject, node, number, symbol, IsPlain}
 
+-- the shape is a number or a symbol
 abbrev pub IsNumberOrSymbol : LispObject → Type 0
 IsNumberOrSymbol (node marks (number n d)) = Unit {0}
 IsNumberOrSymbol (node marks (symbol s)) = Unit {0}

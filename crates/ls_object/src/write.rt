@@ -1,8 +1,8 @@
-ghost use Rattle.std.specs.Prelude.{ℕ, ◌≡◌, ◌++◌, ◌↔◌, OnOk, OnErr, IsTrue, codes, decimal};
+ghost use Rattle.std.specs.Prelude.{ℕ, ◌≡◌, ◌++◌, ◌↔◌, OnOk, OnErr, IsTrue, decimal};
 ghost use Rattle.std.specs.Fmt.{signed_decimal};
 ghost use Rattle.std.specs.List.{list_all, flat_map};
 ghost use Rattle.std.specs.Str.{chars};
-ghost use Rattle.ls_object.specs.ObjectText.{object_text, symbol_text, name_text, number_text, is_nil, is_bare, is_bare_char, is_barred_start, escaped};
+ghost use Rattle.ls_object.specs.ObjectText.{object_text, symbol_text, name_text, number_text, ratio_text, keyword_text, qualified_text, barred_text, is_nil, is_bare, is_bare_char, is_barred_start, escaped};
 ghost use Rattle.ls_object.specs.Writing.{IsWritable, AddsFrontOf};
 ghost use Rattle.ls_object.specs.Meaning.{lisp_object};
 
@@ -54,8 +54,8 @@ impl Symbol {
 }
 
 impl Object {
-    /// Appends the text of a plain number or symbol; objects of the other shapes come later. On an error a
-    /// front part of that text may stand in `out`.
+    /// Appends the text of a plain number or symbol. Objects of the other shapes have a text too, but are not
+    /// written yet. On an error a front part of the text may stand in `out`.
     pub fn write_text(&self, out: &mut Text) -> Result<(), AllocError>
         requires { IsWritable (lisp_object self.now) }
         ensures ok { OnOk result (out.new ≡ out.old ++ object_text (lisp_object self.now)) }
@@ -73,8 +73,7 @@ impl Object {
         ensures { IsTrue result ↔ IsWritable (lisp_object self.now) }
     {
         match &self.shape {
-            Shape::Number(_) => self.marks.is_empty(),
-            Shape::Sym(_) => self.marks.is_empty(),
+            Shape::Number(_) | Shape::Sym(_) => self.marks.is_empty(),
             _ => false,
         }
     }
@@ -82,8 +81,8 @@ impl Object {
 
 /// Appends a numerator, `/` and a denominator.
 fn write_fraction(num: i128, den: u128, out: &mut Text) -> Result<(), AllocError>
-    ensures ok { OnOk result (out.new ≡ out.old ++ (signed_decimal num ++ codes "/" ++ decimal den)) }
-    ensures err { OnErr result (AddsFrontOf (signed_decimal num ++ codes "/" ++ decimal den) out.old out.new) }
+    ensures ok { OnOk result (out.new ≡ out.old ++ ratio_text num den) }
+    ensures err { OnErr result (AddsFrontOf (ratio_text num den) out.old out.new) }
 {
     write_integer(num, out)?;
     out.push_ascii("/")?;
@@ -110,8 +109,8 @@ fn write_natural(value: u128, out: &mut Text) -> Result<(), AllocError>
 
 /// Appends `:` and a name.
 fn write_keyword(name: &Text, out: &mut Text) -> Result<(), AllocError>
-    ensures ok { OnOk result (out.new ≡ out.old ++ (codes ":" ++ name_text name.now)) }
-    ensures err { OnErr result (AddsFrontOf (codes ":" ++ name_text name.now) out.old out.new) }
+    ensures ok { OnOk result (out.new ≡ out.old ++ keyword_text name.now) }
+    ensures err { OnErr result (AddsFrontOf (keyword_text name.now) out.old out.new) }
 {
     out.push_ascii(":")?;
     write_name(name, out)
@@ -119,8 +118,8 @@ fn write_keyword(name: &Text, out: &mut Text) -> Result<(), AllocError>
 
 /// Appends a package's name, `::` and a name.
 fn write_qualified(package_name: &Text, name: &Text, out: &mut Text) -> Result<(), AllocError>
-    ensures ok { OnOk result (out.new ≡ out.old ++ (name_text package_name.now ++ codes "::" ++ name_text name.now)) }
-    ensures err { OnErr result (AddsFrontOf (name_text package_name.now ++ codes "::" ++ name_text name.now) out.old out.new) }
+    ensures ok { OnOk result (out.new ≡ out.old ++ qualified_text package_name.now name.now) }
+    ensures err { OnErr result (AddsFrontOf (qualified_text package_name.now name.now) out.old out.new) }
 {
     write_name(package_name, out)?;
     out.push_ascii("::")?;
@@ -140,8 +139,8 @@ fn write_name(name: &Text, out: &mut Text) -> Result<(), AllocError>
 
 /// Appends a name between bars.
 fn write_barred(name: &str, out: &mut Text) -> Result<(), AllocError>
-    ensures ok { OnOk result (out.new ≡ out.old ++ (codes "|" ++ flat_map escaped (chars name.now) ++ codes "|")) }
-    ensures err { OnErr result (AddsFrontOf (codes "|" ++ flat_map escaped (chars name.now) ++ codes "|") out.old out.new) }
+    ensures ok { OnOk result (out.new ≡ out.old ++ barred_text (chars name.now)) }
+    ensures err { OnErr result (AddsFrontOf (barred_text (chars name.now)) out.old out.new) }
 {
     out.push_ascii("|")?;
     write_escaped(name, out)?;

@@ -1,13 +1,12 @@
 use Rattle.std.proofs.Common.{◌≡◌, ℕ, List, [], ◌∷◌, ◌++◌, sym, subst, ap, ◌∙◌, append-nil, append_assoc}
 use Rattle.std.specs.List.{flat_map}
-use Rattle.std.specs.Str.{chars, IsUtf8}
+use Rattle.std.specs.Str.{chars}
 use Rattle.std.proofs.lemmas.List.{flat_map_more, nil_from_length}
 use Rattle.std.proofs.lemmas.Grind.{flat_map-append}
 use Rattle.std.proofs.lemmas.Str.{chars_past_char, chars-nil, IsUtf8-past_char}
 use Rattle.ls_object.specs.ObjectText.{escaped}
 use Rattle.ls_object.specs.Writing.{AddsFrontOf}
 use Rattle.ls_object.proofs.WritingLemmas.{adds_first, adds_after, on_err}
-use lib.Utf8.{encode}
 use Rattle.ls_object.proofs.write.write_escaped.Goals as goal
 
 -- a failed write of one character is a failed write of the whole

@@ -1,10 +1,10 @@
-use Rattle.std.proofs.Common.{ℕ, ℤ, pos, unsigned_abs, ◌≡◌, ◌<◌, ◌≤◌, ◌*ℤ◌, inl, inr, refl, sym, subst, ap, ◌∙◌, arith, to_z, of_z}
+use Rattle.std.proofs.Common.{ℕ, ℤ, unsigned_abs, ◌≡◌, ◌<◌, inl, inr, refl, sym, subst, ap, ◌∙◌, arith, to_z, of_z}
 use Rattle.std.specs.Int.{IsGcd}
 use Rattle.std.proofs.lemmas.Bool.{true≢false}
 use Rattle.std.proofs.lemmas.Int.{to_z-of_z, fits_signed_from_abs}
 use mir.Syntax.{w128}
 use Rattle.ls_object.specs.Ratio.{PassesLimits}
-use Rattle.ls_object.specs.declared.rat.TheConstants.{NUMERATOR_LIMIT, DENOMINATOR_LIMIT}
+use Rattle.ls_object.specs.declared.rat.TheConstants.{NUMERATOR_LIMIT}
 use Rattle.ls_object.proofs.rat.Rat.new.Goals as goal
 
 -- a numerator within the limit is kept by its representation

@@ -1,10 +1,10 @@
 use Rattle.std.proofs.Common.{◌≡◌, ◌++◌, false, codes, refl, sym, subst, ◌∙◌, OnOk}
 use Rattle.ls_object.specs.declared.symbol.Symbol.{Symbol}
-use Rattle.ls_object.specs.ObjectText.{symbol_text, name_text, is_text}
+use Rattle.ls_object.specs.ObjectText.{symbol_text, qualified_text, is_text}
 use Rattle.ls_object.proofs.symbol.Symbol.write_text.Goals as goal
 
 -- the text of a symbol of a package with no short form
-qualified : (s : Symbol) → is_text s.package (codes "COMMON-LISP") ≡ false → is_text s.package (codes "KEYWORD") ≡ false → symbol_text s ≡ name_text s.package ++ codes "::" ++ name_text s.name
+qualified : (s : Symbol) → is_text s.package (codes "COMMON-LISP") ≡ false → is_text s.package (codes "KEYWORD") ≡ false → symbol_text s ≡ qualified_text s.package s.name
 qualified s e f = rw (e, f) refl
 
 pub returns-clause-ok : goal.returns-clause-ok
