@@ -1,5 +1,5 @@
 -- What a text says is one list of forms, and what was answered is that.
-use Rattle.std.proofs.Common.{◌≡◌, ◌≢◌, ℕ, ◌+◌, ◌<◌, ◌≤◌, inl, inr, true, false, get_or, add-one, List, [], ◌∷◌, ◌++◌, length, take, drop, ap, Result, Ok, Err, refl, sym, subst, ◌∙◌, arith, take_all}
+use Rattle.std.proofs.Common.{◌≡◌, ℕ, ◌+◌, ◌<◌, ◌≤◌, inl, inr, true, false, get_or, add-one, List, [], ◌∷◌, ◌++◌, length, take, drop, ap, Result, Ok, Err, refl, sym, subst, ◌∙◌, arith, take_all}
 use Rattle.std.specs.Prelude.{IfOk, IfErr}
 use Rattle.std.specs.List.{AllByRecursion}
 use Rattle.std.specs.Str.{chars, IsAscii}
@@ -18,12 +18,11 @@ use Rattle.ls_reader.specs.declared.token.Token.{Token}
 use Rattle.ls_reader.specs.declared.token.Token.TheVariants as token
 use Rattle.ls_reader.specs.declared.token.Bracket.TheVariants as bracket
 use Rattle.ls_reader.specs.declared.token.Mark.TheVariants as mark
-use Rattle.ls_reader.specs.Characters.{is_blank, is_constituent, is_accepted, ends_token, run_len}
-use Rattle.ls_reader.specs.Places.{start, after_all}
+use Rattle.ls_reader.specs.Characters.{is_blank, is_constituent, is_accepted, run_len}
 use Rattle.ls_reader.specs.Lexemes.{IsLexeme, Lexeme, Lexed}
 use Rattle.ls_reader.specs.Forms.{FormsIn, Forms}
-use Rattle.ls_reader.specs.Faults.{FaultIn, AreAccepted, IsWholeOf, Fault}
-use Rattle.ls_reader.specs.Answers.{error_of, FailsIn, FailsAt, FailsBefore, past, IsFaultOf, HasNoForms, IsRefusal}
+use Rattle.ls_reader.specs.Faults.{AreAccepted, Fault}
+use Rattle.ls_reader.specs.Answers.{error_of, FailsIn, FailsAt, FailsBefore, IsFaultOf, HasNoForms, IsRefusal}
 use Rattle.ls_reader.proofs.AsciiLemmas.{IsAscii-below}
 use Rattle.ls_reader.proofs.UniqueLaw.{outcome, forms_outcome, fault_outcome}
 
