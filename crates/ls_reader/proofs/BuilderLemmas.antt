@@ -18,7 +18,7 @@ use Rattle.ls_reader.specs.Machine as machine
 use Rattle.ls_reader.specs.Machine.{Found, put, begin, close, step}
 use Rattle.ls_reader.specs.Lexemes.{Extent, Piece, piece}
 use Rattle.ls_reader.specs.Trees.{Tree, atom, list, marked, trees, tree_pieces, trees_pieces, yields, data_of, Fits, AllFit, Opening, list_of, mark_of, opening_pieces, begun_pieces, OpeningFits, AreBegun, Begun}
-use Rattle.ls_reader.specs.Forms.{TooMany, Refused}
+use Rattle.ls_reader.specs.Faults.{TooMany, Refused}
 
 -- ---- lists of trees
 

@@ -13,7 +13,7 @@ use Rattle.ls_reader.specs.Numbers.{is_integer, is_float}
 use Rattle.ls_reader.specs.Tokens.{token_of}
 use Rattle.ls_reader.specs.Lexing.{lexeme}
 use Rattle.ls_reader.specs.Lexemes.{IsRun, IsToken, IsLexeme}
-use Rattle.ls_reader.specs.Forms.{NoLexeme}
+use Rattle.ls_reader.specs.Faults.{NoLexeme}
 
 -- ---- runs
 

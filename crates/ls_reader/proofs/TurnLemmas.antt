@@ -19,7 +19,8 @@ use Rattle.ls_reader.specs.Lexing.{lexeme}
 use Rattle.ls_reader.specs.Machine.{step, finish, nothing, Found, FailsWith}
 use Rattle.ls_reader.specs.Lexemes.{IsToken, IsLexeme, Lexeme, Lexed, Extent, Piece, piece, pieces, text_of}
 use Rattle.ls_reader.specs.Trees.{Tree, Opening, list_of, mark_of, Begun}
-use Rattle.ls_reader.specs.Forms.{Refused, NoLexeme, FaultNext, FormsIn, FaultIn}
+use Rattle.ls_reader.specs.Forms.{FormsIn}
+use Rattle.ls_reader.specs.Faults.{Refused, NoLexeme, FaultNext, FaultIn}
 use Rattle.ls_reader.specs.Answers.{FailsIn}
 use Rattle.ls_reader.specs.Running.{Reading, used, stepped, taken, advance, IsSmall}
 use Rattle.ls_reader.proofs.LexemeLemmas.{Sound, lexeme_sound, no_lexeme}

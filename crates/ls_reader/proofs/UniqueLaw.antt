@@ -19,7 +19,8 @@ use Rattle.ls_reader.specs.Machine as machine
 use Rattle.ls_reader.specs.Machine.{put, step, begin, finish, nothing, Found}
 use Rattle.ls_reader.specs.Lexemes.{IsLexeme, Lexeme, Lexed, Extent, Piece, piece, pieces, text_of}
 use Rattle.ls_reader.specs.Trees.{Tree, atom, list, marked, Trees, none, more, trees, tree_pieces, trees_pieces, yields, data_of, IsOne, Fits, AllFit, Opening, list_of, mark_of, opening_pieces, begun_pieces, OpeningFits, AreBegun, Begun}
-use Rattle.ls_reader.specs.Forms.{TooMany, Refused, NoLexeme, FaultNext, FormsIn, FaultIn}
+use Rattle.ls_reader.specs.Forms.{FormsIn}
+use Rattle.ls_reader.specs.Faults.{TooMany, Refused, NoLexeme, FaultNext, FaultIn}
 use Rattle.ls_reader.specs.Running.{Reading, stepped, advance}
 use Rattle.ls_reader.proofs.LexemeLemmas.{Sound, lexeme_sound, lexeme_again}
 use Rattle.ls_reader.proofs.BuilderLemmas.{builder, give, builder_of, frame_of, trees_pieces-trees, data_of-trees, AllFit-trees}

@@ -10,7 +10,9 @@ use Rattle.ls_reader.specs.declared.fault.Failure.TheVariants as failure
 use Rattle.ls_reader.specs.declared.fault.ReadError.{ReadError}
 use Rattle.ls_reader.specs.declared.fault.ReadError.TheVariants as errors
 use Rattle.ls_reader.specs.Places.{span_at}
-use Rattle.ls_reader.specs.Forms.{Forms, Fault, FaultIn}
+use Rattle.ls_reader.specs.Forms.{Forms}
+use Rattle.ls_reader.specs.Characters.{ends_token}
+use Rattle.ls_reader.specs.Faults.{Fault, FaultIn, IsWholeOf, FaultBefore}
 
 -- the error of a fault at a place
 abbrev pub error_of : Failure → ReadError
@@ -23,6 +25,23 @@ error_of (failure.Fault fault_kind.NotBuilt at) = errors.NotBuilt (span_at at)
 abbrev pub FailsIn : List ℕ → Failure → Type 0
 FailsIn cs failure.Memory = Unit {0}
 FailsIn cs (failure.Fault k place) = FaultIn cs k place
+
+-- the failure is the fault of the bytes, unless memory ran out
+abbrev pub FailsAt : List ℕ → Failure → Type 0
+FailsAt bytes failure.Memory = Unit {0}
+FailsAt bytes (failure.Fault k place) = Fault bytes k place
+
+-- the failure is the fault of a text that a byte follows which is not accepted, unless memory ran out
+abbrev pub FailsBefore : List ℕ → ℕ → Failure → Type 0
+FailsBefore text next failure.Memory = Unit {0}
+FailsBefore text next (failure.Fault k place) = (front : List ℕ) × IsWholeOf text (ends_token next) front × FaultBefore text front k place
+
+-- the failure of a front, or that of the place behind the text where it is only that the front is not ended
+abbrev pub past : Failure → Place → Failure
+past failure.Memory at = failure.Memory
+past (failure.Fault fault_kind.StrayClose place) at = failure.Fault fault_kind.StrayClose place
+past (failure.Fault fault_kind.Unclosed place) at = failure.Fault fault_kind.NotBuilt at
+past (failure.Fault fault_kind.NotBuilt place) at = failure.Fault fault_kind.NotBuilt place
 
 -- the bytes have a fault of this kind, with its place in the span
 abbrev pub FaultAt : List ℕ → FaultKind → Span → Type 0

@@ -7,5 +7,6 @@ pub mod Machine
 pub mod Lexemes
 pub mod Trees
 pub mod Forms
+pub mod Faults
 pub mod Answers
 pub mod Running

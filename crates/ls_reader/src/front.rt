@@ -1,5 +1,7 @@
-ghost use Rattle.std.specs.Prelude.{◌≡◌, ◌≤◌, length, IfOk};
+ghost use Rattle.std.specs.Prelude.{◌≡◌, ◌≤◌, length, take, drop, true, IfOk};
+ghost use Rattle.std.specs.List.{AllByRecursion};
 ghost use Rattle.ls_reader.specs.Characters as spec;
+ghost use Rattle.ls_reader.specs.Faults.{EndsApart, IsWholeOf};
 
 use crate::lexeme::is_constituent;
 use std::alloc::{AllocError, Global};
@@ -43,23 +45,31 @@ fn ends_token(byte: u8) -> bool
     )
 }
 
-/// Where the token that ends a text begins.
+/// Where the token that a text ends in begins; the end, where it ends in none.
 fn token_start(text: &[char]) -> usize
     ensures within { result ≤ length text.now }
+    ensures token { AllByRecursion (λ c. spec.is_constituent c ≡ true) (drop result text.now) }
+    ensures apart { EndsApart (take result text.now) }
 {
     let mut start = text.len();
-    while start > 0 && is_constituent(text[start - 1]) {
+    while start > 0 {
+        if !is_constituent(text[start - 1]) {
+            return start;
+        }
         start -= 1;
     }
     start
 }
 
-/// The text before a byte that the reader does not take, without a token that the byte goes on with.
-pub(crate) fn ended(text: &[char], next: u8) -> &[char]
-    ensures { length result.now ≤ length text.now }
+/// What is whole of a text before a byte that the reader does not take: the text without a token that the byte
+/// goes on with.
+pub(crate) fn whole_of(text: &[char], next: u8) -> &[char]
+    ensures whole { IsWholeOf text.now (spec.ends_token next) result.now }
+    ensures short { length result.now ≤ length text.now }
 {
     if ends_token(next) {
         return text;
     }
-    &text[..token_start(text)]
+    let (front, _) = text.split_at(token_start(text));
+    front
 }

@@ -1,14 +1,14 @@
 ghost use Rattle.std.specs.Prelude.{ℕ, List, ◌≡◌, ◌≤◌, ◌<◌, length, take, IfOk, IfErr, IsErr};
 ghost use Rattle.ls_reader.specs.Characters.{is_accepted, run_len};
-ghost use Rattle.ls_reader.specs.Forms.{Forms, FormsIn, AreAccepted};
-ghost use Rattle.ls_reader.specs.Answers.{FailsIn, IsFaultOf, ReadsAs, IsRefusal};
+ghost use Rattle.ls_reader.specs.Forms.{Forms, FormsIn};
+ghost use Rattle.ls_reader.specs.Answers.{FailsIn, FailsAt, FailsBefore, past, IsFaultOf, ReadsAs, IsRefusal};
 ghost use Rattle.ls_reader.specs.Running.{reading, advance, Turns, IsSmall, failure_at};
 ghost use Rattle.ls_reader.specs.declared.datum.Datum.{Datum};
 
 use crate::builder::Builder;
 use crate::datum::Datum;
 use crate::fault::{Failure, FaultKind, ReadError, Stop};
-use crate::front::{accepted_len, characters, ended};
+use crate::front::{accepted_len, characters, whole_of};
 use crate::lexeme::lexeme;
 use crate::place::Place;
 use sqlite_items::Items;
@@ -76,22 +76,33 @@ fn read_chars(alloc: Global, text: &[char]) -> Result<Items<Datum>, Failure>
     }
 }
 
-/// The fault of a text that goes on with a byte that the reader does not take.
-fn fault_before(alloc: Global, text: &[char], next: u8) -> Failure
-    requires { length text.now ≤ 16777216 }
+/// The failure of a front, or of the place behind the text, where it is only that the front is not ended.
+fn past(failure: Failure, at: Place) -> Failure
+    ensures { result ≡ past failure at }
 {
-    match read_chars(alloc, ended(text, next)) {
-        Ok(_) | Err(Failure::Fault(FaultKind::Unclosed, _)) => {
-            Failure::Fault(FaultKind::NotBuilt, Place::start().after_all(text))
-        }
-        Err(failure) => failure,
+    match failure {
+        Failure::Fault(FaultKind::Unclosed, _) => Failure::Fault(FaultKind::NotBuilt, at),
+        failure => failure,
     }
 }
 
+/// The fault of a text that a byte follows which the reader does not take.
+fn fault_before(alloc: Global, text: &[char], next: u8) -> Failure
+    requires { length text.now ≤ 16777216 }
+    ensures { FailsBefore text.now next result }
+{
+    let at = Place::start().after_all(text);
+    match read_chars(alloc, whole_of(text, next)) {
+        Ok(_) => Failure::Fault(FaultKind::NotBuilt, at),
+        Err(failure) => past(failure, at),
+    }
+}
+
+/// The data of bytes, or their first fault.
 fn read(alloc: Global, bytes: &[u8]) -> Result<Items<Datum>, Failure>
     requires { length bytes.now ≤ 16777216 }
     ensures ok { IfOk result (Forms bytes.now) }
-    ensures err { AreAccepted bytes.now → IfErr result (FailsIn bytes.now) }
+    ensures err { IfErr result (FailsAt bytes.now) }
 {
     let built = accepted_len(bytes);
     let text = characters(alloc, &bytes[..built])?;
@@ -118,8 +129,8 @@ pub fn read_text(alloc: Global, bytes: &[u8]) -> Result<Items<Datum>, ReadError>
     ensures reads { (fs : List Datum) → Forms bytes.now fs → ReadsAs fs result }
     // What is refused says nothing.
     ensures refused { IfErr result (IsRefusal bytes.now) }
-    // The fault of a text of accepted bytes is its first one, at its place.
-    ensures fault { AreAccepted bytes.now → IfErr result (IsFaultOf bytes.now) }
+    // The fault is the first one of the text, at its place.
+    ensures fault { IfErr result (IsFaultOf bytes.now) }
 {
     Ok(read(alloc, bytes)?)
 }

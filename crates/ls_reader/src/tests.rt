@@ -1,5 +1,3 @@
-ghost use Rattle.std.specs.Prelude.{◌≤◌, length, IfOk};
-
 use super::*;
 use std::alloc::AllocError;
 use std::test::*;
@@ -37,14 +35,20 @@ fn describe(out: &mut String, datum: &Datum) -> Result<(), AllocError> {
         }
         _ => out.push_str("?")?,
     }
-    let Span { start, end, line, column } = datum.span;
+    let Span {
+        start,
+        end,
+        line,
+        column,
+    } = datum.span;
     write!(out, "@{start}-{end},{line}:{column}")
 }
 
 /// What a text reads as, written out; None where it is not read.
-fn reading(rt: &HostRuntime, text: &[u8]) -> Option<String>
-    requires { length text.now ≤ 1000 }
-{
+fn reading(rt: &HostRuntime, text: &[u8]) -> Option<String> {
+    if text.len() > 1000 {
+        return None;
+    }
     let data = read_text(rt.alloc(), text).ok()?;
     let mut out = String::new(rt.alloc());
     describe_all(&mut out, data.as_slice()).ok()?;
@@ -52,9 +56,10 @@ fn reading(rt: &HostRuntime, text: &[u8]) -> Option<String>
 }
 
 /// The fault of a text: its kind, byte, line and column, with the end of its span.
-fn fault(rt: &HostRuntime, text: &[u8]) -> (&'static str, u32, u32, u32, u32)
-    requires { length text.now ≤ 1000 }
-{
+fn fault(rt: &HostRuntime, text: &[u8]) -> (&'static str, u32, u32, u32, u32) {
+    if text.len() > 1000 {
+        return ("too long", 0, 0, 0, 0);
+    }
     let (kind, at) = match read_text(rt.alloc(), text) {
         Err(ReadError::StrayClose(at)) => ("stray", at),
         Err(ReadError::Unclosed(at)) => ("unclosed", at),
@@ -72,14 +77,23 @@ const DATA: [(&str, &str); 16] = [
     ("()", " NIL@0-2,1:1"),
     ("( \n )", " NIL@0-5,1:1"),
     ("CaR*2 z", " CAR*2@0-5,1:1 Z@6-7,1:7"),
-    ("+1 -1 007 -0", " 1/1@0-2,1:1 -1/1@3-5,1:4 7/1@6-9,1:7 0/1@10-12,1:11"),
+    (
+        "+1 -1 007 -0",
+        " 1/1@0-2,1:1 -1/1@3-5,1:4 7/1@6-9,1:7 0/1@10-12,1:11",
+    ),
     ("1+ + - -a", " 1+@0-2,1:1 +@3-4,1:4 -@5-6,1:6 -A@7-9,1:8"),
-    ("1e e5 1e+ +e5", " 1E@0-2,1:1 E5@3-5,1:4 1E+@6-9,1:7 +E5@10-13,1:11"),
+    (
+        "1e e5 1e+ +e5",
+        " 1E@0-2,1:1 E5@3-5,1:4 1E+@6-9,1:7 +E5@10-13,1:11",
+    ),
     ("1g5 1e5e5", " 1G5@0-3,1:1 1E5E5@4-9,1:5"),
     ("18446744073709551616", " 18446744073709551616/1@0-20,1:1"),
     ("-18446744073709551616", " -18446744073709551616/1@0-21,1:1"),
     ("18446744073709551617", " wide@0-20,1:1"),
-    ("-99999999999999999999999999999999999999999999", " wide@0-45,1:1"),
+    (
+        "-99999999999999999999999999999999999999999999",
+        " wide@0-45,1:1",
+    ),
     ("''a", " ' ' A@2-3,1:3@1-3,1:2@0-3,1:1"),
     (
         "(f 'a)\n  (\n b)(c)",
@@ -125,16 +139,16 @@ const FAULTS: [(&[u8], &str, u32, u32, u32); 22] = [
 #[test]
 fn faults(rt: HostRuntime) {
     for (text, kind, byte, line, column) in FAULTS {
-        assert_eq!(rt; fault(&rt, text), (kind, byte, byte, line, column), "at {text:?}");
+        assert_eq!(rt;
+            fault(&rt, text),
+            (kind, byte, byte, line, column),
+            "at {text:?}"
+        );
     }
 }
 
 /// Brackets or quotes, an atom, and closing brackets.
-fn nested(rt: &HostRuntime, open: u8, depth: usize, close: usize) -> Result<Vec<u8>, AllocError>
-    requires depth { depth ≤ 300 }
-    requires close { close ≤ 300 }
-    ensures { IfOk result (λ v. length v.items ≤ 1000) }
-{
+fn nested(rt: &HostRuntime, open: u8, depth: usize, close: usize) -> Result<Vec<u8>, AllocError> {
     let mut text = vec![in rt.alloc(); open; depth]?;
     text.push(b'a')?;
     for _ in 0..close {

@@ -16,7 +16,7 @@ returns-in_err-read-clause-refused c =
 pub returns-in_err-read-clause-fault : goal.returns-in_err-read-clause-fault
 returns-in_err-read-clause-fault c =
     let p = err_from_is_err_and c.from_residual.result c.from_residual.ensures.1 in
-    λ accepted. rw (p.1, p.2) (err_fault c.args.bytes.now c.in_err-read.field-0.0 accepted (c.in_err-read.ensures.err accepted))
+    rw (p.1, p.2) (err_fault c.args.bytes.now c.in_err-read.field-0.0 c.in_err-read.ensures.err)
 
 pub returns-clause-reads : goal.returns-clause-reads
 returns-clause-reads c = λ fs forms. forms_same c.args.bytes.now _ fs c.in_ok-read.ensures.ok forms
