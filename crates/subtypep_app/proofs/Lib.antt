@@ -3,3 +3,5 @@ mod IntegerLaw
 mod SeparatingLemmas
 mod DenotingLemmas
 mod IntegerDenotingLemmas
+mod LineLemmas
+mod ReportLemmas

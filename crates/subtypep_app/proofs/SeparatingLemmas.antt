@@ -3,6 +3,7 @@ use Rattle.std.proofs.Common.{ℕ, ℤ, ◌≡◌, ◌<◌, refl, subst, sym, Li
 use Rattle.std.proofs.Math.Nat.{one-dvd}
 use Rattle.std.specs.List.{AllByRecursion}
 use Rattle.ls_object.specs.Universe.{LispObject, node, number, symbol, Structures, IsObject, IsPlain, plain}
+use Rattle.ls_object.specs.Writing.{IsWritable}
 use Rattle.ls_spec.specs.Specifier.{Specifier}
 use Rattle.ls_spec.specs.Approximation.{low, high}
 use Rattle.ls_spec.specs.Membership.{Belongs}
@@ -19,7 +20,7 @@ IsObject-integer structures n = (tt, (lit< tt, (one-dvd _, one-dvd 1, λ d divid
 pub IsSeparating-integer : (a b : Specifier) (o : LispObject) (n : ℤ) → o ≡ integer n → Separates a b o → IsSeparating a b o
 IsSeparating-integer a b o n is separates = record {
   is_object = λ structures. subst (IsObject structures) (sym is) (IsObject-integer structures n);
-  is_plain = subst IsPlain (sym is) refl;
+  is_writable = subst IsWritable (sym is) (refl, tt);
   separates = separates;
 }
 
@@ -32,7 +33,7 @@ IsObject-nil structures = (tt, ((refl, (refl, (refl, (refl, (refl, (refl, (refl,
 pub IsSeparating-nil : (a b : Specifier) (o : LispObject) → o ≡ nil → Separates a b o → IsSeparating a b o
 IsSeparating-nil a b o is separates = record {
   is_object = λ structures. subst (IsObject structures) (sym is) (IsObject-nil structures);
-  is_plain = subst IsPlain (sym is) refl;
+  is_writable = subst IsWritable (sym is) (refl, tt);
   separates = separates;
 }
 
@@ -43,7 +44,7 @@ Passes-nil a b o is passes = subst (Passes a b) is passes
 pub IsWitness-separating : (a b : Specifier) (o : LispObject) → IsOfIntegers a → IsOfIntegers b → IsSeparating a b o → (structures : Structures) → IsWitness structures a b o
 IsWitness-separating a b o a_is b_is is structures = record {
   is_object = is.is_object structures;
-  is_plain = is.is_plain;
+  is_plain = is.is_writable.0;
   inside = subst (λ s. Belongs structures s o) (sym (bounded-integers false a a_is)) (is.separates structures).0;
   outside = λ h. (is.separates structures).1 (subst (λ s. Belongs structures s o) (bounded-integers true b b_is) h);
 }

@@ -3,7 +3,8 @@ use Rattle.std.specs.Prelude.{◌≡◌, ℕ, ℤ, pos, ◌+ℤ◌, ◌≤◌, �
 use Rattle.std.specs.List.{AllByRecursion}
 use Rattle.ls_object.specs.declared.rat.Rat.{Rat}
 use Rattle.ls_object.specs.declared.symbol.Symbol.{Symbol}
-use Rattle.ls_object.specs.Universe.{LispObject, node, number, symbol, Structures, IsObject, IsPlain}
+use Rattle.ls_object.specs.Universe.{LispObject, node, number, symbol, Structures, IsObject}
+use Rattle.ls_object.specs.Writing.{IsWritable}
 use Rattle.ls_spec.specs.declared.spec.Point.{Point}
 use Rattle.ls_spec.specs.declared.spec.Point.TheVariants as point
 use Rattle.ls_spec.specs.declared.spec.RangeKind.TheVariants.{Integer}
@@ -86,10 +87,10 @@ Separates a b o = (structures : Structures) → Belongs structures a o × (Belon
 abbrev pub Passes : Specifier → Specifier → LispObject → Type 0
 Passes a b o = (structures : Structures) → Belongs structures a o → Belongs structures b o
 
--- such an object of any structure list, without marks
+-- such an object of any structure list, whose text can be written: a plain number or symbol
 pub record IsSeparating (a b : Specifier) (o : LispObject) : Type 0 where
   pub is_object : (structures : Structures) → IsObject structures o
-  pub is_plain : IsPlain o
+  pub is_writable : IsWritable o
   pub separates : Separates a b o
 
 -- the symbol NIL, which stands for all objects that are no integers

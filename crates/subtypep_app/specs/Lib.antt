@@ -5,5 +5,7 @@ pub mod Denoting
 pub mod Looking
 pub mod Queries
 pub mod Asking
+pub mod Lines
 pub mod Statuses
 pub mod Report
+pub mod Reporting

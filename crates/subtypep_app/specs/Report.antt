@@ -9,7 +9,7 @@ use Rattle.ls_reader.specs.declared.datum.Datum.{Datum}
 use Rattle.ls_reader.specs.declared.datum.Span.{Span}
 use Rattle.ls_reader.specs.declared.fault.ReadError.{ReadError}
 use Rattle.ls_reader.specs.declared.fault.ReadError.TheVariants as errors
-use Rattle.ls_reader.specs.Forms.{Forms, AreAccepted}
+use Rattle.ls_reader.specs.Forms.{Forms}
 use Rattle.ls_reader.specs.Answers.{HasNoForms, IsFaultOf}
 use Rattle.subtypep_app.specs.declared.answer.Answer.{Answer}
 use Rattle.subtypep_app.specs.declared.answer.Answer.TheVariants.{Yes, No, Unsure}
@@ -73,12 +73,11 @@ fault_text e = codes "FAULT " ++ fault_body e ++ 10 ∷ []
 abbrev pub too_long_text : List ℕ
 too_long_text = codes "FAULT TOO-LONG" ++ 10 ∷ []
 
--- The error that the text is refused with: it has no forms. Where all its characters are taken by the reader,
--- the error is the text's first fault.
+-- the text has no forms, and the error is its first fault, at its place
 pub record IsRefusedWith (text : List ℕ) (e : ReadError) : Type 0 where
   pub no_memory : e ≡ errors.Memory → ⊥
   pub no_forms : HasNoForms text
-  pub fault : AreAccepted text → IsFaultOf text e
+  pub fault : IsFaultOf text e
 
 -- A text is answered by this status and this whole report, as characters.
 abbrev pub Answers : List ℕ → Status → List ℕ → Type 0

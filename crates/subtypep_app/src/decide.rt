@@ -7,7 +7,7 @@ ghost use Rattle.ls_object.specs.Meaning.{lisp_object};
 ghost use Rattle.ls_spec.specs.Meaning.{specifier};
 ghost use Rattle.ls_spec.specs.Truth.{IsSelfContained};
 ghost use Rattle.ls_spec.specs.Inclusion.{IsIncluded};
-ghost use Rattle.subtypep_app.specs.Answers.{IsRight};
+ghost use Rattle.subtypep_app.specs.Answers.{IsRight, IsWritableAnswer};
 ghost use Rattle.subtypep_app.specs.Integers.{integer, IsCut, IsOfIntegers, Passes, Separates, IsSeparating, nil};
 
 use crate::answer::Answer;
@@ -162,7 +162,8 @@ fn separating_object(alloc: Global, a: &Spec, b: &Spec) -> Result<Option<Object>
 pub(crate) fn decide(alloc: Global, a: &Spec, b: &Spec) -> Result<Answer, AllocError>
     requires first { IsOfIntegers (specifier a.now) }
     requires second { IsOfIntegers (specifier b.now) }
-    ensures { IfOk result (λ answer. (structures : Structures) → IsRight structures (specifier a.now) (specifier b.now) answer) }
+    ensures right { IfOk result (λ answer. (structures : Structures) → IsRight structures (specifier a.now) (specifier b.now) answer) }
+    ensures writable { IfOk result IsWritableAnswer }
 {
     match separating_object(alloc, a, b)? {
         Some(object) => Ok(Answer::No(object)),

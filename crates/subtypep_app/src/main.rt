@@ -10,5 +10,6 @@ mod resolve;
 mod query;
 mod line;
 mod status;
+mod report;
 
 fn main() {}
