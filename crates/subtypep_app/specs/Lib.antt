@@ -5,3 +5,5 @@ pub mod Denoting
 pub mod Queries
 pub mod Statuses
 pub mod Report
+pub mod Words
+pub mod Endings
