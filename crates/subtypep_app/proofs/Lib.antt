@@ -1,3 +1,6 @@
 mod NearestLemmas
 mod IntegerLaw
 mod SeparatingLemmas
+mod WordLemmas
+mod LineLemmas
+mod EndingLemmas
