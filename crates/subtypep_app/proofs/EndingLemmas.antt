@@ -156,14 +156,14 @@ pub IsComplete-from_ended : (words : List (List ℕ)) (before now : Outside) (st
     → IsEnded (Replies words) before now status → NoCallFailed words command text before now → IsComplete text status
 IsComplete-from_ended words before now Clean command text e calm =
     let right = Answers-from_replies e.0.3.0 e.0.0 Clean e.0.1 e.0.3.2 in
-    record { answered = λ fs short forms. tt; refused = λ bad. read_not_refused before.left text e.0.0 right.1 calm.told e.0.2 right.0 right.2 bad; }
+    record { answered = λ fs short forms. tt; refused = λ bad. read_not_refused before.left text e.0.0 right.1 calm.told e.0.2 right.0 right.2 bad }
 IsComplete-from_ended words before now Found command text e calm =
     let right = Answers-from_replies e.0.3.0 e.0.0 Found e.0.1 e.0.3.2 in
-    record { answered = λ fs short forms. tt; refused = λ bad. read_not_refused before.left text e.0.0 right.1 calm.told e.0.2 right.0 right.2 bad; }
-IsComplete-from_ended words before now Memory command text e calm = record { answered = λ fs short forms. tt; refused = λ bad. tt; }
+    record { answered = λ fs short forms. tt; refused = λ bad. read_not_refused before.left text e.0.0 right.1 calm.told e.0.2 right.0 right.2 bad }
+IsComplete-from_ended words before now Memory command text e calm = record { answered = λ fs short forms. tt; refused = λ bad. tt }
 IsComplete-from_ended words before now Unreadable command text e calm =
     let right = Answers-from_replies e.3.0 e.0 Unreadable e.1 e.3.2 in
-    record { answered = λ fs short forms. refused_not_read before.left text e.0 e.1 fs calm.told e.2 right short forms; refused = λ bad. tt; }
+    record { answered = λ fs short forms. refused_not_read before.left text e.0 e.1 fs calm.told e.2 right short forms; refused = λ bad. tt }
 IsComplete-from_ended words before now Usage command text e calm = absurd (e.3.0 command calm.meant)
 IsComplete-from_ended words before now SourceFault command text e calm = absurd (calm.reads e.0)
 IsComplete-from_ended words before now SinkFault command text e calm = absurd (calm.writes e.0)

@@ -1,16 +1,23 @@
 //! Answers SUBTYPEP queries in the text of a Lisp file, from standard input to standard output.
 #![tactic(auto)]
 
-mod answer;
-mod integers;
-mod decide;
-mod names;
-mod look;
-mod line;
-mod status;
-mod report;
-mod words;
+// How a run ends, what the words of the command line ask for, and the run.
 mod app;
+mod status;
+mod words;
+
+// What a query asks.
+mod look;
+mod names;
+
+// The answer to a query.
+mod answer;
+mod decide;
+mod integers;
+
+// The line of a query, and the report of a text.
+mod line;
+mod report;
 #[cfg(test)]
 mod tests;
 
