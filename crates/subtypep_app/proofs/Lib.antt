@@ -3,5 +3,8 @@ mod IntegerLaw
 mod SeparatingLemmas
 mod DenotingLemmas
 mod IntegerDenotingLemmas
-mod LineLemmas
+mod AppendLemmas
 mod ReportLemmas
+mod WordLemmas
+mod LineLemmas
+mod EndingLemmas

@@ -9,3 +9,5 @@ pub mod Lines
 pub mod Statuses
 pub mod Report
 pub mod Reporting
+pub mod Words
+pub mod Endings

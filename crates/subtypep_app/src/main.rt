@@ -1,15 +1,57 @@
 //! Answers SUBTYPEP queries in the text of a Lisp file, from standard input to standard output.
 #![tactic(auto)]
 
-mod answer;
-mod integers;
-mod decide;
-mod names;
-mod look;
-mod resolve;
-mod query;
-mod line;
+// How a run ends, what the words of the command line ask for, and the run.
+mod app;
 mod status;
-mod report;
+mod words;
 
-fn main() {}
+// What a form asks, and which specifier a datum denotes.
+mod look;
+mod names;
+mod query;
+mod resolve;
+
+// The answer to a query.
+mod answer;
+mod decide;
+mod integers;
+
+// The line of a query, and the report of a text.
+mod line;
+mod report;
+#[cfg(test)]
+mod tests;
+
+use app::run;
+use ls_io::{StdSink, StdSource};
+use std::process::ExitCode;
+use std::{env, io};
+
+/// The exit status where memory for the words is wanting.
+const NO_MEMORY: u8 = 6;
+
+/// The exit status where the words can't be had for another cause.
+const NO_WORDS: u8 = 7;
+
+/// The words after the program's name.
+fn words_of(rt: &HostRuntime) -> io::Result<Vec<String>> {
+    let mut words = Vec::new(rt.alloc());
+    for word in env::args(rt)?.skip(1) {
+        words.push(word)?;
+    }
+    Ok(words)
+}
+
+fn main(rt: HostRuntime) -> ExitCode {
+    match words_of(&rt) {
+        Ok(words) => {
+            let mut source = StdSource::new(rt.stdin());
+            let mut sink = StdSink::new(rt.stdout());
+            let status = run(rt.alloc(), &words, &mut source, &mut sink);
+            ExitCode::from(status.number())
+        }
+        Err(error) if error.kind() == io::ErrorKind::OutOfMemory => ExitCode::from(NO_MEMORY),
+        Err(_) => ExitCode::from(NO_WORDS),
+    }
+}

@@ -1,6 +1,6 @@
 use Rattle.std.proofs.Common.{◌≡◌, ◌++◌, ◌∙◌, ap, sym}
 use Rattle.subtypep_app.specs.Report.{answer_text}
-use Rattle.subtypep_app.proofs.LineLemmas.{appended_twice}
+use Rattle.subtypep_app.proofs.AppendLemmas.{appended_twice}
 use Rattle.subtypep_app.proofs.line.push_answer.Goals as goal
 
 pub returns-in_ok-write_text-in-No : goal.returns-in_ok-write_text-in-No

@@ -1,6 +1,6 @@
 use Rattle.std.proofs.Common.{◌≡◌, ◌++◌, ◌∙◌, ap, sym}
 use Rattle.subtypep_app.specs.Report.{body_text}
-use Rattle.subtypep_app.proofs.LineLemmas.{appended_twice}
+use Rattle.subtypep_app.proofs.AppendLemmas.{appended_twice}
 use Rattle.subtypep_app.proofs.line.push_body.Goals as goal
 
 pub returns-in_ok-push_place-in-NotBuilt : goal.returns-in_ok-push_place-in-NotBuilt
