@@ -81,10 +81,14 @@ impl Code {
     pub const BIT: Code = Code { index: BIT_PLACE };
 
     /// The code of base strings.
-    pub const BASE_CHAR: Code = Code { index: BASE_CHAR_PLACE };
+    pub const BASE_CHAR: Code = Code {
+        index: BASE_CHAR_PLACE,
+    };
 
     /// The code of strings of any characters.
-    pub const CHARACTER: Code = Code { index: CHARACTER_PLACE };
+    pub const CHARACTER: Code = Code {
+        index: CHARACTER_PLACE,
+    };
 
     /// The code of arrays that can hold every object.
     pub const ALL: Code = Code { index: T_PLACE };

@@ -84,9 +84,10 @@ some_same : {X : Type 0} (x y : X) → Some x ≡ Some y → x ≡ y
 some_same x y e = cc
 
 Decides-kind : (j k : Kind) → Decides (same_kind j k) (j ≡ k)
-Decides-kind j k =
-    (λ e. some_same j k (sym (kind_at_number j) ∙ ap (slice_get kinds) ((Decides-eqb (kind_number j) (kind_number k)).0 e) ∙ kind_at_number k),
-    λ e. (Decides-eqb (kind_number j) (kind_number k)).1 (ap kind_number e))
+Decides-kind j k = (
+  λ e. some_same j k (sym (kind_at_number j) ∙ ap (slice_get kinds) ((Decides-eqb (kind_number j) (kind_number k)).0 e) ∙ kind_at_number k),
+  λ e. (Decides-eqb (kind_number j) (kind_number k)).1 (ap kind_number e),
+)
 
 Decides-point : (p : Point) (shape : LispShape) → Decides (is_point p shape) (IsPoint p shape)
 Decides-point (point.Number r) (number n d) = Decides-and _ _ (Decides-int_eq n r.num) (Decides-eqb d r.den)
@@ -178,10 +179,11 @@ Decides-pair p q P Q d e (pair car cdr) = Decides-and _ _ (d car) (e cdr)
 Decides-pair p q P Q d e _ = Decides-false
 
 Decides-mark : (p : Symbol) (marks : List Symbol) → Decides (list_any (same_symbol p) marks) (Contains marks p)
-Decides-mark p marks =
-    (λ e. let found = Any-from_list_any (same_symbol p) marks e in
+Decides-mark p marks = (
+  λ e. let found = Any-from_list_any (same_symbol p) marks e in
       subst (Contains marks) (sym ((Decides-symbol p found.1).0 found.4)) (found.0, found.2, found.3),
-    λ h. list_any-from_Any (same_symbol p) marks (h.0, p, h.1, h.2, (Decides-symbol p p).1 refl))
+  λ h. list_any-from_Any (same_symbol p) marks (h.0, p, h.1, h.2, (Decides-symbol p p).1 refl),
+)
 
 -- a type has one upgraded code
 pub one_code : (structures : Structures) (P : LispObject → Type 0) (c d : ℕ) → IsFirstHolding structures P c → IsFirstHolding structures P d → c ≡ d

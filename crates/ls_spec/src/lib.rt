@@ -2,9 +2,8 @@
 //! `specs/`; `belongs` is the plain test of one object.
 #![tactic(auto)]
 
-mod spec;
 mod membership;
-
+mod spec;
 
 pub use membership::belongs;
 pub use spec::{Bound, CharClass, DimPattern, Point, RangeKind, Spec, SymClass};

@@ -162,7 +162,8 @@ fn is_array(simple: bool, dims: &DimPattern, shape: &Shape) -> bool
         elem: _,
         simple: is_simple,
         dims: has,
-    } = shape else {
+    } = shape
+    else {
         return false;
     };
     (!simple || *is_simple) && is_matched_by(dims, has)
@@ -184,7 +185,8 @@ fn is_string(simple: bool, dim: Option<u64>, shape: &Shape) -> bool
         elem,
         simple: is_simple,
         dims,
-    } = shape else {
+    } = shape
+    else {
         return false;
     };
     is_string_code(*elem) && ((!simple || *is_simple) && is_of_length(dim, dims))
@@ -197,17 +199,17 @@ fn has_mark(predicate: &Symbol, marks: &[Symbol]) -> bool
 }
 
 /// Whether the object belongs to the specifier, where no structure name and no element type is asked for.
-#[cycle(test)]
-fn test(spec: &Spec, object: &Object) -> bool
+#[cycle(holds)]
+fn holds(spec: &Spec, object: &Object) -> bool
     ensures { result ≡ truth.holds nothing_learnt (specifier spec.now) (lisp_object object.now) }
 {
     let shape = &object.shape;
     match spec {
         Spec::All => true,
         Spec::Nothing => false,
-        Spec::And(parts) => test_all(parts.as_slice(), object),
-        Spec::Or(parts) => test_some(parts.as_slice(), object),
-        Spec::Not(part) => !test(part.get(), object),
+        Spec::And(parts) => all_hold(parts.as_slice(), object),
+        Spec::Or(parts) => some_holds(parts.as_slice(), object),
+        Spec::Not(part) => !holds(part.get(), object),
         Spec::Eql(point) => is_point(point, shape),
         Spec::Range { kind, lo, hi } => is_in_range(*kind, *lo, *hi, shape),
         Spec::Chars(class) => is_char_in(*class, shape),
@@ -221,31 +223,31 @@ fn test(spec: &Spec, object: &Object) -> bool
         },
         Spec::StringOf { simple, dim } => is_string(*simple, *dim, shape),
         Spec::ConsOf(car, cdr) => match shape {
-            Shape::Pair(x, y) => test(car.get(), x.get()) && test(cdr.get(), y.get()),
+            Shape::Pair(x, y) => holds(car.get(), x.get()) && holds(cdr.get(), y.get()),
             _ => false,
         },
         Spec::Satisfies(predicate) => has_mark(predicate, object.marks.as_slice()),
     }
 }
 
-#[cycle(test)]
-fn test_all(parts: &[Spec], object: &Object) -> bool
+#[cycle(holds)]
+fn all_hold(parts: &[Spec], object: &Object) -> bool
     ensures { result ≡ truth.all_hold nothing_learnt (specifiers parts.now) (lisp_object object.now) }
 {
     for part in parts {
-        if !test(part, object) {
+        if !holds(part, object) {
             return false;
         }
     }
     true
 }
 
-#[cycle(test)]
-fn test_some(parts: &[Spec], object: &Object) -> bool
+#[cycle(holds)]
+fn some_holds(parts: &[Spec], object: &Object) -> bool
     ensures { result ≡ truth.some_holds nothing_learnt (specifiers parts.now) (lisp_object object.now) }
 {
     for part in parts {
-        if test(part, object) {
+        if holds(part, object) {
             return true;
         }
     }
@@ -258,5 +260,5 @@ pub fn belongs(spec: &Spec, object: &Object) -> bool
     requires { IsSelfContained (specifier spec.now) }
     ensures { (structures : Structures) → Decides result (Belongs structures (specifier spec.now) (lisp_object object.now)) }
 {
-    test(spec, object)
+    holds(spec, object)
 }

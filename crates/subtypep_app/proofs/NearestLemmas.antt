@@ -34,8 +34,8 @@ nearest_step n c cs (inl above) = by_lt_z n c
 nearest_step n c cs (inr (m, best)) = by_lt_z n c
     (λ l. inr (m, (inr best.0, best.1, ((λ k. absurd (omega (arith, ints))), best.2))))
     (λ l. by_lt_z m c
-      (λ k. inr (c, (inl refl, l, ((λ _. omega (arith, ints)), nearest_raised n m c cs (omega (arith, ints)) best.2))))
-      (λ k. inr (m, (inr best.0, best.1, ((λ _. k), best.2)))))
+    (λ k. inr (c, (inl refl, l, ((λ _. omega (arith, ints)), nearest_raised n m c cs (omega (arith, ints)) best.2))))
+    (λ k. inr (m, (inr best.0, best.1, ((λ _. k), best.2)))))
 
 nearest : (n : ℤ) (cs : List ℤ) → AllAbove n cs ⊎ ((m : ℤ) × IsNearest cs n m)
 nearest n [] = inl tt
@@ -62,6 +62,6 @@ some_at P x (y ∷ ys) (inr e) p = inr (some_at P x ys e p)
 -- a cut, or an integer below all cuts, stands for each integer
 pub represented : (cs : List ℤ) (bottom n : ℤ) → AllAbove bottom cs → SomeByRecursion (λ m. SameCuts m n cs) (bottom ∷ cs)
 represented cs bottom n below = elim (nearest n cs) [
-      inl above ↦ inl (same_below_all n bottom cs above below)
-    | inr (m, best) ↦ inr (some_at (λ k. SameCuts k n cs) m cs best.0 (same_at_nearest n m cs best.1 best.2))
-    ]
+  | inl above ↦ inl (same_below_all n bottom cs above below)
+  | inr (m, best) ↦ inr (some_at (λ k. SameCuts k n cs) m cs best.0 (same_at_nearest n m cs best.1 best.2))
+]

@@ -50,7 +50,7 @@ with_line fs d found finding old new r l =
       right = subst (λ ds. AllZip RightAt ds (r.lines ++ l.line ∷ [])) (sym qs) (AllZip-push RightAt (queries fs) r.lines d l.line r.right (l.right []));
       text = l.text ∙ ap (λ t. t ++ line_text d.span l.line) r.text ∙ sym (lines_text-push (queries fs) r.lines d l.line r.right) ∙ sym (ap (λ ds. lines_text ds (r.lines ++ l.line ∷ [])) qs);
       found_is = ap (λ b. b || finding) r.found_is ∙ ap (λ b. list_any is_finding r.lines || b) l.found_is
-        ∙ sym (list_any-append is_finding r.lines (l.line ∷ []) ∙ ap (λ b. list_any is_finding r.lines || b) (or-false (is_finding l.line)));
+          ∙ sym (list_any-append is_finding r.lines (l.line ∷ []) ∙ ap (λ b. list_any is_finding r.lines || b) (or-false (is_finding l.line)));
     }
 
 without_line : (fs : List Datum) (d : Datum) (found finding : Bool) (old new : List ℕ) → IsReport fs found old → NothingAppended d old new finding → IsReport (fs ++ d ∷ []) (found || finding) new

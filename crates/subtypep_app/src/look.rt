@@ -35,7 +35,11 @@ fn literal_integer(literal: &Literal) -> Option<Rat>
     ensures { result ≡ spec.literal_integer literal.now }
 {
     match literal {
-        Literal::Value(number) => if is_limited(number) { Some(*number) } else { None },
+        Literal::Value(number) => if is_limited(number) {
+            Some(*number)
+        } else {
+            None
+        },
         Literal::Wide => None,
     }
 }
