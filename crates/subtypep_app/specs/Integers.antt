@@ -13,10 +13,11 @@ use Rattle.ls_spec.specs.declared.spec.Bound.TheVariants.{Free, Incl, Excl}
 use Rattle.ls_spec.specs.Specifier.{Specifier, all_objects, no_objects, and_of, or_of, not_of, eql_to, range_of, Specifiers, no_more, also}
 use Rattle.ls_spec.specs.Membership.{Belongs}
 use Rattle.subtypep_app.specs.declared.integers.TheConstants.{BOTTOM}
+use Rattle.subtypep_app.specs.declared.look.TheConstants.{INTEGER_LIMIT}
 
--- an integer of at most 2^64 in absolute value
+-- an integer within the limit on integers in specifiers
 abbrev pub IsLimitedInteger : Rat → Type 0
-IsLimitedInteger r = (r.den ≡ 1) × (unsigned_abs r.num ≤ 2 ^ 64)
+IsLimitedInteger r = (r.den ≡ 1) × (unsigned_abs r.num ≤ INTEGER_LIMIT)
 
 abbrev pub IsIntegerBound : Bound → Type 0
 IsIntegerBound Free = Unit {0}
@@ -57,7 +58,8 @@ abbrev pub point_cuts : Point → List ℤ
 point_cuts (point.Number r) = r.num ∷ (r.num +ℤ pos 1) ∷ []
 point_cuts _ = []
 
--- whether an integer belongs to the specifier depends on which of these are at most it
+-- The cuts of a specifier: the integers at which a range begins, or just past which one ends. Whether an integer
+-- belongs to the specifier depends on which cuts are at most it.
 abbrev mutual
   pub cuts : Specifier → List ℤ
   cuts (and_of ss) = cuts_of_all ss
