@@ -15,6 +15,7 @@ use Rattle.ls_reader.specs.declared.frame.Frame.{Frame}
 use Rattle.ls_reader.specs.declared.frame.Frame.TheVariants as frame
 use Rattle.ls_reader.specs.declared.builder.Builder.{Builder}
 use Rattle.ls_reader.specs.Machine as machine
+use Rattle.ls_reader.specs.Data as made
 use Rattle.ls_reader.specs.Machine.{Found, put, begin, close, step}
 use Rattle.ls_reader.specs.Lexemes.{Extent, Piece, piece}
 use Rattle.ls_reader.specs.Trees.{Tree, atom, list, marked, trees, tree_pieces, trees_pieces, yields, data_of, Fits, AllFit, Opening, list_of, mark_of, opening_pieces, begun_pieces, OpeningFits, AreBegun, Begun}
@@ -113,8 +114,8 @@ give_one (list_of kind o ts ∷ w) t whole ps d fits y all begun e =
     ((begun.0.0, all_push (Fits (suc (length w))) ts t begun.0.1 fits), begun.1) _
     (ap (λ (x : List Datum). builder (frame.List kind o.from x ∷ map frame_of w) (flat_map yields whole)) (done_push ts t (d ∷ []) y))
 give_one (mark_of kind q us ∷ w) t whole ps d fits y all begun e =
-    give_one w (marked kind q (trees us) t) whole ps (machine.mark_on kind q.from d)
-    (begun.0.0, AllFit-trees (suc (length w)) us begun.0.1, no_data us begun.0.2, fits, (d, y)) (ap (map (machine.mark_on kind q.from)) y) all begun.1
+    give_one w (marked kind q (trees us) t) whole ps (made.mark_on kind q.from d)
+    (begun.0.0, AllFit-trees (suc (length w)) us begun.0.1, no_data us begun.0.2, fits, (d, y)) (ap (map (made.mark_on kind q.from)) y) all begun.1
     (ends ps whole w (mark_of kind q us) t (marked kind q (trees us) t) e (marked_pieces kind q us t))
 
 -- ---- a step keeps to the grammar
@@ -144,12 +145,12 @@ close_holds e ps whole [] b = (refl, refl)
 close_holds e ps whole (mark_of kind q us ∷ w) b = (refl, refl)
 close_holds e ps whole (list_of kind o ts ∷ w) b =
     let t = list kind o (trees ts) e in
-    let d = machine.list kind o.from e.to (flat_map yields ts) in
+    let d = made.list kind o.from e.to (flat_map yields ts) in
     let at : Behind (ps ++ piece token.Close e) whole w t =
     ap (λ (x : List Piece). x ++ piece token.Close e) b.are ∙ append_assoc (flat_map tree_pieces whole) (begun_pieces (list_of kind o ts ∷ w)) (piece token.Close e)
     ∙ ap (λ (x : List Piece). flat_map tree_pieces whole ++ x) (append_assoc (begun_pieces w) (piece (token.Open kind) o ++ flat_map tree_pieces ts) (piece token.Close e) ∙ ap (λ (x : List Piece). begun_pieces w ++ (piece (token.Open kind) o ++ (x ++ piece token.Close e))) (sym (trees_pieces-trees ts))) in
     given_stepped ps e token.Close (list_of kind o ts ∷ w) (put d (map frame_of w) (flat_map yields whole))
-    (give_one w t whole (ps ++ piece token.Close e) d (b.begun_fit.0.0, AllFit-trees (suc (length w)) ts b.begun_fit.0.1) (ap (λ (x : List Datum). machine.list kind o.from e.to x ∷ []) (data_of-trees ts)) b.whole_fit b.begun_fit.1 at)
+    (give_one w t whole (ps ++ piece token.Close e) d (b.begun_fit.0.0, AllFit-trees (suc (length w)) ts b.begun_fit.0.1) (ap (λ (x : List Datum). made.list kind o.from e.to x ∷ []) (data_of-trees ts)) b.whole_fit b.begun_fit.1 at)
 
 -- a step from what holds the pieces holds one more, or the grammar refuses the token
 pub step_holds : (t : Token) (e : Extent) (ps : List Piece) (whole : List Tree) (w : List Opening) → Begun ps whole w → Stepped ps e t w (step e.from e.to t (builder_of whole w))

@@ -16,6 +16,7 @@ use Rattle.ls_reader.specs.declared.token.Token.TheVariants as token
 use Rattle.ls_reader.specs.Places.{start, after_all}
 use Rattle.ls_reader.specs.Lexing.{lexeme}
 use Rattle.ls_reader.specs.Machine as machine
+use Rattle.ls_reader.specs.Data as made
 use Rattle.ls_reader.specs.Machine.{put, step, begin, finish, nothing, Found}
 use Rattle.ls_reader.specs.Lexemes.{IsLexeme, Lexeme, Lexed, Extent, Piece, piece, pieces, text_of}
 use Rattle.ls_reader.specs.Trees.{Tree, atom, list, marked, Trees, none, more, trees, tree_pieces, trees_pieces, yields, data_of, IsOne, Fits, AllFit, Opening, list_of, mark_of, opening_pieces, begun_pieces, OpeningFits, AreBegun, Begun}
@@ -52,7 +53,7 @@ begin_is p f w done lt = rw (lt-ltb (length w) 256 lt) refl
 few_yields : (n : ℕ) (t : Tree) → Fits n t → (yields t ≡ []) ⊎ IsOne (yields t)
 few_yields n (atom e form) fits = inr (_, refl)
 few_yields n (list kind o ts c) fits = inr (_, refl)
-few_yields n (marked kind e us t) fits = inr (machine.mark_on kind e.from fits.4.0, ap (map (machine.mark_on kind e.from)) fits.4.1)
+few_yields n (marked kind e us t) fits = inr (made.mark_on kind e.from fits.4.0, ap (map (made.mark_on kind e.from)) fits.4.1)
 
 give_list : (ds : List Datum) → (ds ≡ []) ⊎ IsOne ds → (kind : Bracket) (from : Place) (items : List Datum) (w : List Frame) (done : List Datum) → give ds (frame.List kind from items ∷ w) done ≡ Ok (builder (frame.List kind from (items ++ ds) ∷ w) done)
 give_list ds (inl e) kind from items w done = rw (e, append-nil items) refl
@@ -62,7 +63,7 @@ give_done : (ds : List Datum) → (ds ≡ []) ⊎ IsOne ds → (done : List Datu
 give_done ds (inl e) done = rw (e, append-nil done) refl
 give_done ds (inr h) done = rw h.1 refl
 
-give_mark : (ds : List Datum) → IsOne ds → (kind : Mark) (p : Place) (w : List Frame) (done : List Datum) → give ds (frame.Mark kind p ∷ w) done ≡ give (map (machine.mark_on kind p) ds) w done
+give_mark : (ds : List Datum) → IsOne ds → (kind : Mark) (p : Place) (w : List Frame) (done : List Datum) → give ds (frame.Mark kind p ∷ w) done ≡ give (map (made.mark_on kind p) ds) w done
 give_mark ds h kind p w done = rw h.1 refl
 
 both_nil : (xs ys : List Datum) → xs ++ ys ≡ [] → (xs ≡ []) × (ys ≡ [])

@@ -29,8 +29,8 @@ is_exponent_marker c = c == 101 || c == 115 || c == 102 || c == 100 || c == 108 
 abbrev pub is_accepted : ℕ → Bool
 is_accepted c = is_constituent c || is_blank c || c == 39 || c == 40 || c == 41
 
--- a character that this reader does not take goes on with a token before it, unless it is whitespace, a control
--- character or one of the terminating macro characters (2.1.4, 2.4): " ' ( ) , ; and the backquote
+-- a character that ends the token before it, and does not go on with it: whitespace, a control character, or one of
+-- the terminating macro characters (2.1.4, 2.4), which are " ' ( ) , ; and the backquote
 abbrev pub ends_token : ℕ → Bool
 ends_token c = nat_le c 32 || c == 127 || c == 34 || c == 39 || c == 40 || c == 41 || c == 44 || c == 59 || c == 96
 

@@ -3,6 +3,7 @@ pub mod Places
 pub mod Numbers
 pub mod Tokens
 pub mod Lexing
+pub mod Data
 pub mod Machine
 pub mod Lexemes
 pub mod Trees

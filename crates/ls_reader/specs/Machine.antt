@@ -1,44 +1,18 @@
--- Data from tokens, with the constructs begun and not ended, the innermost first.
+-- How the reader goes on from one token to the next, with the constructs begun and not ended, the innermost first.
+-- Nothing of this needs to be believed: it is what the code does, and the grammar of Forms.antt is proved of it.
 use Rattle.std.specs.Prelude.{ℕ, ◌≡◌, nat_lt, if◌then◌else◌, List, [], ◌∷◌, ◌++◌, length, Result, Ok, Err}
 use Rattle.ls_reader.specs.declared.place.Place.{Place}
 use Rattle.ls_reader.specs.declared.datum.Datum.{Datum}
-use Rattle.ls_reader.specs.declared.datum.Form.{Form, roll-Form}
-use Rattle.ls_reader.specs.declared.datum.Form.TheOpen.{Form-F}
 use Rattle.ls_reader.specs.declared.fault.FaultKind.{FaultKind}
 use Rattle.ls_reader.specs.declared.fault.FaultKind.TheVariants.{StrayClose, NotBuilt}
 use Rattle.ls_reader.specs.declared.fault.Failure.{Failure}
 use Rattle.ls_reader.specs.declared.fault.Failure.TheVariants as failure
 use Rattle.ls_reader.specs.declared.token.Token.{Token}
 use Rattle.ls_reader.specs.declared.token.Token.TheVariants as token
-use Rattle.ls_reader.specs.declared.token.Bracket.{Bracket}
-use Rattle.ls_reader.specs.declared.token.Bracket.TheVariants as bracket
-use Rattle.ls_reader.specs.declared.token.Mark.{Mark}
-use Rattle.ls_reader.specs.declared.token.Mark.TheVariants as mark
 use Rattle.ls_reader.specs.declared.frame.Frame.{Frame}
 use Rattle.ls_reader.specs.declared.frame.Frame.TheVariants as frame
 use Rattle.ls_reader.specs.declared.builder.Builder.{Builder}
-use Rattle.ls_reader.specs.Tokens.{symbol_named, nil_name}
-
--- a form that begins at a place and ends before a byte
-abbrev pub datum : Place → ℕ → Form → Datum
-datum from end form = record { span = record { start = from.byte; end = end; line = from.line; column = from.column }; form = form }
-
--- what brackets with these data in them are (2.4.1): a list, or NIL where there are none
-abbrev pub listed : Bracket → List Datum → Form
-listed bracket.Round [] = roll-Form (Form-F.Symbol (symbol_named nil_name))
-listed bracket.Round (d ∷ ds) = roll-Form (Form-F.List (d ∷ ds))
-
--- what a mark and its datum are (2.4.3)
-abbrev pub marked : Mark → Datum → Form
-marked mark.Quote of = roll-Form (Form-F.Quote of)
-
--- the datum of brackets that begin at a place and end before another
-abbrev pub list : Bracket → Place → Place → List Datum → Datum
-list kind from to items = datum from to.byte (listed kind items)
-
--- the datum of a mark and its datum
-abbrev pub mark_on : Mark → Place → Datum → Datum
-mark_on kind from of = datum from of.span.end (marked kind of)
+use Rattle.ls_reader.specs.Data as made
 
 -- a fault and its place
 abbrev pub Found : Type 0
@@ -48,7 +22,7 @@ Found = FaultKind × Place
 abbrev pub put : Datum → List Frame → List Datum → Result Builder Found
 put d [] done = Ok (record { frames = []; done = done ++ d ∷ [] })
 put d (frame.List kind from items ∷ w) done = Ok (record { frames = frame.List kind from (items ++ d ∷ []) ∷ w; done = done })
-put d (frame.Mark kind from ∷ w) done = put (mark_on kind from d) w done
+put d (frame.Mark kind from ∷ w) done = put (made.mark_on kind from d) w done
 
 -- A construct begins, unless it would be 257 deep.
 abbrev pub begin : Place → Frame → Builder → Result Builder Found
@@ -57,7 +31,7 @@ begin from f s = if nat_lt (length s.frames) 256 then Ok (record { frames = f �
 -- A closing bracket ends the innermost construct, which must be a list (2.4.2).
 abbrev pub close : Place → Place → List Frame → List Datum → Result Builder Found
 close at to [] done = Err (StrayClose, at)
-close at to (frame.List kind from items ∷ w) done = put (list kind from to items) w done
+close at to (frame.List kind from items ∷ w) done = put (made.list kind from to items) w done
 close at to (frame.Mark kind from ∷ w) done = Err (StrayClose, at)
 
 -- a token from one place to another
@@ -66,7 +40,7 @@ step from to token.Gap s = Ok s
 step from to (token.Open kind) s = begin from (frame.List kind from []) s
 step from to token.Close s = close from to s.frames s.done
 step from to (token.Mark kind) s = begin from (frame.Mark kind from) s
-step from to (token.Atom form) s = put (datum from to.byte form) s.frames s.done
+step from to (token.Atom form) s = put (made.datum from to.byte form) s.frames s.done
 step from to (token.Bad kind) s = Err (kind, from)
 
 -- before the first token

@@ -1,4 +1,5 @@
--- Numbers as they are written (2.3.1, 2.3.2).
+-- Numbers as they are written (2.3.1, 2.3.2). A rational carries the facts that make it one, so the definition of a
+-- literal's value has short proofs in it.
 use Rattle.std.specs.Prelude.{ℕ, zero, suc, ℤ, pos, neg_ℤ, unsigned_abs, ◌≡◌, ◌<◌, ◌^◌, ◌+◌, ◌-◌, ◌*◌, Bool, true, false, ◌&&◌, if◌then◌else◌, ◌==◌, nat_lt, nat_le, List, [], ◌∷◌, length, drop}
 use Rattle.std.proofs.Common.{lit<, lit≤, refl, sym, subst}
 use Rattle.std.proofs.lemmas.Bool.{leb-true}

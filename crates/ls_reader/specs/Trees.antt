@@ -8,7 +8,7 @@ use Rattle.ls_reader.specs.declared.token.Token.TheVariants as token
 use Rattle.ls_reader.specs.declared.token.Bracket.{Bracket}
 use Rattle.ls_reader.specs.declared.token.Mark.{Mark}
 use Rattle.ls_reader.specs.Lexemes.{Extent, Piece, piece}
-use Rattle.ls_reader.specs.Machine as machine
+use Rattle.ls_reader.specs.Data as made
 
 -- A datum as it is written, or what stands for none.
 mutual
@@ -17,7 +17,8 @@ mutual
     atom : Extent → Form → Tree
     -- brackets, with what stands between them (2.4.1)
     list : Bracket → Extent → Trees → Extent → Tree
-    -- a mark, what stands for none, and the datum of the mark (2.4.3)
+    -- a mark, trees between it and its datum that stand for no datum (nothing that this reader takes does), and the
+    -- datum of the mark (2.4.3)
     marked : Mark → Extent → Trees → Tree → Tree
 
   pub data Trees : Type 0 where
@@ -43,9 +44,9 @@ abbrev mutual
 -- the datum that a tree stands for, or none
 abbrev mutual
   pub yields : Tree → List Datum
-  yields (atom e form) = machine.datum e.from e.to.byte form ∷ []
-  yields (list kind o ts c) = machine.list kind o.from c.to (data_of ts) ∷ []
-  yields (marked kind e us t) = map (machine.mark_on kind e.from) (yields t)
+  yields (atom e form) = made.datum e.from e.to.byte form ∷ []
+  yields (list kind o ts c) = made.list kind o.from c.to (data_of ts) ∷ []
+  yields (marked kind e us t) = map (made.mark_on kind e.from) (yields t)
 
   pub data_of : Trees → List Datum
   data_of none = []

@@ -1,5 +1,6 @@
 ghost use Rattle.std.specs.Prelude.{◌≡◌, IfOk};
 ghost use Rattle.ls_reader.specs.Machine.{Steps};
+ghost use Rattle.ls_reader.specs.Data as made;
 ghost use Rattle.ls_reader.specs.Machine as spec;
 
 use crate::datum::{Datum, Form, Span};
@@ -23,7 +24,7 @@ pub(crate) struct Builder {
 }
 
 fn datum(from: Place, end: u32, form: Form) -> Datum
-    ensures { result ≡ spec.datum from end form }
+    ensures { result ≡ made.datum from end form }
 {
     Datum {
         span: Span {
@@ -38,7 +39,7 @@ fn datum(from: Place, end: u32, form: Form) -> Datum
 
 /// What brackets with these data in them are.
 fn listed(alloc: Global, kind: Bracket, items: Items<Datum>) -> Result<Form, AllocError>
-    ensures { IfOk result (λ form. form ≡ spec.listed kind items) }
+    ensures { IfOk result (λ form. form ≡ made.listed kind items) }
 {
     match kind {
         Bracket::Round => {
@@ -52,7 +53,7 @@ fn listed(alloc: Global, kind: Bracket, items: Items<Datum>) -> Result<Form, All
 
 /// What a mark and its datum are.
 fn marked(alloc: Global, kind: Mark, of: Datum) -> Result<Form, AllocError>
-    ensures { IfOk result (λ form. form ≡ spec.marked kind of) }
+    ensures { IfOk result (λ form. form ≡ made.marked kind of) }
 {
     match kind {
         Mark::Quote => Ok(Form::Quote(Boxed::new(alloc, of)?)),
@@ -61,7 +62,7 @@ fn marked(alloc: Global, kind: Mark, of: Datum) -> Result<Form, AllocError>
 
 /// The datum of a mark and its datum.
 fn mark_on(alloc: Global, kind: Mark, from: Place, of: Datum) -> Result<Datum, AllocError>
-    ensures { IfOk result (λ d. d ≡ spec.mark_on kind from of) }
+    ensures { IfOk result (λ d. d ≡ made.mark_on kind from of) }
 {
     let end = of.span.end;
     Ok(datum(from, end, marked(alloc, kind, of)?))

@@ -135,7 +135,7 @@ pub fn read_text(alloc: Global, bytes: &[u8]) -> Result<Items<Datum>, ReadError>
     Ok(read(alloc, bytes)?)
 }
 
-/// A text is at most one list of forms.
+/// The law that a text is at most one list of forms. It is one about the definitions, so there is nothing to do.
 pub fn one_answer()
     ensures { (bytes : List ℕ) (fs gs : List Datum) → Forms bytes fs → Forms bytes gs → fs ≡ gs }
 {}
