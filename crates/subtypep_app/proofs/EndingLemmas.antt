@@ -76,7 +76,7 @@ IsEnded-from_finished IsReply before now status result text report bytes told ri
 ]
 
 -- with the source at its end, the whole report of an answer is an ending
-pub IsEnded-from_whole : (before now : Outside) (status : Status) (text report : List ℕ) → Answers text status report → IsAtEnd now.left
+IsEnded-from_whole : (before now : Outside) (status : Status) (text report : List ℕ) → Answers text status report → IsAtEnd now.left
     → WroteAll Answers before now status → IsEnded Answers before now status
 IsEnded-from_whole before now Clean text report right end wrote = (wrote, end)
 IsEnded-from_whole before now Found text report right end wrote = (wrote, end)
@@ -85,6 +85,14 @@ IsEnded-from_whole before now Usage text report right end wrote = absurd right
 IsEnded-from_whole before now SourceFault text report right end wrote = absurd right
 IsEnded-from_whole before now SinkFault text report right end wrote = absurd right
 IsEnded-from_whole before now Memory text report right end wrote = absurd right
+
+-- with the source at its end, a run that wrote an answer, or a prefix of it, has ended
+pub IsEnded-from_answer : (before now : Outside) (status result : Status) (text report bytes : List ℕ)
+    → IsTold before.left text → Answers text status report → bytes ≡ encode_utf8_all report → IsAtEnd now.left
+    → IsFinished before.written now.written before.write_faults now.write_faults bytes status result
+    → IsEnded Answers before now result
+IsEnded-from_answer before now status result text report bytes told right utf8 end done =
+    IsEnded-from_finished Answers before now status result text report bytes told right utf8 (IsEnded-from_whole before now status text report right end) done
 
 -- a count that stays where there is room for a report stays, or the report is longer
 pub stays_or_longer : {Stays : Type 0} (IsReply : List ℕ → Status → List ℕ → Type 0) (left : Option (List ℕ)) (status : Status) (text report bytes : List ℕ) (room : ℕ)

@@ -1,7 +1,6 @@
 // One run of the program, over any source and any sink.
 
-ghost use Rattle.std.specs.Prelude.{◌≡◌, ◌≤◌, ◌<◌, ◌⊎◌, ℕ, length, encode_utf8_all};
-ghost use Rattle.ls_io.specs.Moves.{Took, TookPrefix};
+ghost use Rattle.std.specs.Prelude.{◌≡◌, ◌≤◌, ◌⊎◌, ℕ, length};
 ghost use Rattle.subtypep_app.specs.Words.{texts, MeanNothing};
 ghost use Rattle.subtypep_app.specs.Report.{Answers};
 ghost use Rattle.subtypep_app.specs.Endings.{Replies, seen, IsEnded, IsFinished, IsUsage, Completes, DecidesAll, IsLonger};
@@ -18,9 +17,11 @@ const TOO_LONG: &[u8] = b"FAULT TOO-LONG\n";
 
 /// Writes all the bytes of a report, and gives the status that stands for it.
 fn finish<K: Sink>(sink: &mut K, bytes: &[u8], status: Status) -> Status
-    ensures ends { IsFinished (K.written sink.old) (K.written sink.new) (K.failures sink.old) (K.failures sink.new) bytes.now status result }
+    ensures ends { IsFinished (K.written sink.old) (K.written sink.new) (K.failures sink.old) (K.failures sink.new)
+        bytes.now status result }
     ensures later { K.failures sink.old ≤ K.failures sink.new }
-    ensures sound { (room : ℕ) → K.has_room sink.old room → length bytes.now ≤ room → K.failures sink.new ≡ K.failures sink.old }
+    ensures sound { (room : ℕ) → K.has_room sink.old room → length bytes.now ≤ room
+        → K.failures sink.new ≡ K.failures sink.old }
 {
     match write_all(sink, bytes) {
         Ok(()) => status,
@@ -67,7 +68,8 @@ fn reply<S: Source, K: Sink>(
     ensures sink_later { K.failures sink.old ≤ K.failures sink.new }
     ensures source_sound { S.is_sound source.old → S.failures source.new ≡ S.failures source.old }
     ensures sink_sound { (room : ℕ) → K.has_room sink.old room
-        → (K.failures sink.new ≡ K.failures sink.old) ⊎ IsLonger (Replies (texts words.now)) (S.left source.old) room }
+        → (K.failures sink.new ≡ K.failures sink.old) ⊎
+        IsLonger (Replies (texts words.now)) (S.left source.old) room }
 {
     match command_of(words) {
         Some(Command::Ask) => ask(alloc, source, sink),
@@ -107,7 +109,8 @@ pub fn run<S: Source, K: Sink>(
     ensures sink_later { K.failures sink.old ≤ K.failures sink.new }
     ensures source_sound { S.is_sound source.old → S.failures source.new ≡ S.failures source.old }
     ensures sink_sound { (room : ℕ) → K.has_room sink.old room
-        → (K.failures sink.new ≡ K.failures sink.old) ⊎ IsLonger (Replies (texts words.now)) (S.left source.old) room }
+        → (K.failures sink.new ≡ K.failures sink.old) ⊎
+        IsLonger (Replies (texts words.now)) (S.left source.old) room }
 {
     reply(alloc, words, source, sink)
 }

@@ -1,7 +1,7 @@
 use Rattle.std.proofs.Common.{inl, refl, ap, subst, Err}
 use Rattle.subtypep_app.specs.declared.status.Status.TheVariants.{Unreadable}
 use Rattle.subtypep_app.specs.Report.{Answers, too_long_text}
-use Rattle.subtypep_app.proofs.EndingLemmas.{told_all, told_too_long, too_long_bytes, IsEnded-from_finished, IsEnded-from_whole, stays_or_longer}
+use Rattle.subtypep_app.proofs.EndingLemmas.{told_all, told_too_long, too_long_bytes, IsEnded-from_finished, IsEnded-from_answer, stays_or_longer}
 use Rattle.subtypep_app.proofs.app.ask.Goals as goal
 
 -- the text that was read is answered
@@ -11,7 +11,7 @@ returns-in-Ok-report_of-clause-ends g c =
     let report = c.in-Ok-report_of.report in
     let told = told_all _ _ text c.in-Ok.ensures.all c.in-Ok.ensures.end in
     let right = subst (λ bytes. Answers bytes report.status report.text) c.deref.ensures.value c.in-Ok-report_of.ensures in
-    IsEnded-from_finished Answers _ _ report.status _ text report.text _ told right c.as_bytes.ensures.utf8 (IsEnded-from_whole _ _ _ _ _ right c.in-Ok.ensures.end) c.finish.ensures.ends
+    IsEnded-from_answer _ _ report.status _ text report.text _ told right c.as_bytes.ensures.utf8 c.in-Ok.ensures.end c.finish.ensures.ends
 
 -- the text is too long
 pub returns-in-Err-TooLong-clause-ends : goal.returns-in-Err-TooLong-clause-ends
