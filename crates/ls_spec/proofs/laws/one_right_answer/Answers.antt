@@ -1,0 +1,6 @@
+use Rattle.ls_spec.proofs.ApproximationLemmas.{low_within, within_high}
+use Rattle.ls_spec.proofs.laws.one_right_answer.Goals as goal
+
+pub returns-clause-witness : goal.returns-clause-witness
+returns-clause-witness c structures a b o included w =
+    w.outside (within_high structures b o (included o w.is_object (low_within structures a o w.inside)))

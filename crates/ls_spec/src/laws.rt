@@ -1,0 +1,33 @@
+// Laws about the definitions in specs/. Each function is empty: all that it gives is its contract.
+
+ghost use Rattle.std.specs.Prelude.{ℕ, ◌≡◌};
+ghost use Rattle.ls_object.specs.Universe.{LispObject, Structures};
+ghost use Rattle.ls_spec.specs.Specifier.{Specifier};
+ghost use Rattle.ls_spec.specs.Membership.{Belongs, UpgradesTo};
+ghost use Rattle.ls_spec.specs.Approximation.{low, high};
+ghost use Rattle.ls_spec.specs.Inclusion.{IsIncluded, IsWitness, IsUnsureWitness};
+
+/// The lower approximation of a specifier lies within it, and the specifier within its upper approximation.
+/// The body is empty, since this is a law about definitions.
+pub fn approximations()
+    ensures lower { (structures : Structures) (s : Specifier) (o : LispObject) → Belongs structures (low s) o → Belongs structures s o }
+    ensures upper { (structures : Structures) (s : Specifier) (o : LispObject) → Belongs structures s o → Belongs structures (high s) o }
+{}
+
+/// Of inclusion, a witness against it, and a witness under some meaning of the predicates alone, at most one
+/// stands for two specifiers (SUBTYPEP has one right answer). The body is empty, since this is a law about
+/// definitions.
+pub fn one_right_answer()
+    // A type that is included has no witness against it.
+    ensures witness { (structures : Structures) (a b : Specifier) (o : LispObject) → IsIncluded structures a b → IsWitness structures a b o → ⊥ }
+    // Nor has it one under some meaning of the predicates.
+    ensures unsure { (structures : Structures) (a b : Specifier) (o : LispObject) → IsIncluded structures a b → IsUnsureWitness structures a b o → ⊥ }
+    // Where there is a witness under every meaning, none is unsure.
+    ensures sure { (structures : Structures) (a b : Specifier) (w o : LispObject) → IsWitness structures a b w → IsUnsureWitness structures a b o → ⊥ }
+{}
+
+/// A type has at most one upgraded element code (UPGRADED-ARRAY-ELEMENT-TYPE, 15.1.2.1). The body is empty,
+/// since this is a law about definitions.
+pub fn one_upgraded_code()
+    ensures { (structures : Structures) (e : Specifier) (c d : ℕ) → UpgradesTo structures e c → UpgradesTo structures e d → c ≡ d }
+{}
