@@ -1,3 +1,4 @@
 pub mod TruthLemmas
 pub mod AlikeLemmas
 pub mod ApproximationLemmas
+pub mod PlainLemmas

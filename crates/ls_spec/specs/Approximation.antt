@@ -35,3 +35,17 @@ low s = bounded false s
 -- what may belong to it under some meaning of them
 abbrev pub high : Specifier → Specifier
 high s = bounded true s
+
+-- no predicate stands outside element types
+abbrev mutual
+  pub HasNoPredicate : Specifier → Type 0
+  HasNoPredicate (and_of ss) = HaveNoPredicate ss
+  HasNoPredicate (or_of ss) = HaveNoPredicate ss
+  HasNoPredicate (not_of s) = HasNoPredicate s
+  HasNoPredicate (cons_of a b) = HasNoPredicate a × HasNoPredicate b
+  HasNoPredicate (satisfies p) = ⊥
+  HasNoPredicate _ = Unit {0}
+
+  pub HaveNoPredicate : Specifiers → Type 0
+  HaveNoPredicate no_more = Unit {0}
+  HaveNoPredicate (also s ss) = HasNoPredicate s × HaveNoPredicate ss

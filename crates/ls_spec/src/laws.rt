@@ -4,7 +4,7 @@ ghost use Rattle.std.specs.Prelude.{ℕ, ◌≡◌};
 ghost use Rattle.ls_object.specs.Universe.{LispObject, Structures};
 ghost use Rattle.ls_spec.specs.Specifier.{Specifier};
 ghost use Rattle.ls_spec.specs.Membership.{Belongs, UpgradesTo};
-ghost use Rattle.ls_spec.specs.Approximation.{low, high};
+ghost use Rattle.ls_spec.specs.Approximation.{low, high, HasNoPredicate};
 ghost use Rattle.ls_spec.specs.Inclusion.{IsIncluded, IsWitness, IsUnsureWitness};
 
 /// The lower approximation of a specifier lies within it, and the specifier within its upper approximation.
@@ -24,6 +24,9 @@ pub fn one_right_answer()
     ensures unsure { (structures : Structures) (a b : Specifier) (o : LispObject) → IsIncluded structures a b → IsUnsureWitness structures a b o → ⊥ }
     // Where there is a witness under every meaning, none is unsure.
     ensures sure { (structures : Structures) (a b : Specifier) (w o : LispObject) → IsWitness structures a b w → IsUnsureWitness structures a b o → ⊥ }
+    // Without predicates outside element types, none is unsure.
+    ensures without_predicates { (structures : Structures) (a b : Specifier) (o : LispObject)
+        → HasNoPredicate a → HasNoPredicate b → IsUnsureWitness structures a b o → ⊥ }
 {}
 
 /// A type has at most one upgraded element code (UPGRADED-ARRAY-ELEMENT-TYPE, 15.1.2.1). The body is empty,

@@ -8,6 +8,7 @@ use Rattle.ls_object.specs.Universe.{Structures}
 use Rattle.ls_object.specs.Meaning.{lisp_object}
 use Rattle.ls_reader.specs.declared.datum.Datum.{Datum}
 use Rattle.ls_spec.proofs.ApproximationLemmas.{low_within, within_high}
+use Rattle.ls_spec.proofs.PlainLemmas.{sure-no_predicate}
 use Rattle.subtypep_app.specs.declared.answer.Answer.TheVariants.{Yes, No, Unsure}
 use Rattle.subtypep_app.specs.declared.line.Line.{Line}
 use Rattle.subtypep_app.specs.declared.line.Line.TheVariants.{Answered, NotBuilt}
@@ -29,6 +30,7 @@ IsLineFor-from_right : (structures : Structures) (question : Question) (line : L
 IsLineFor-from_right structures (inclusion a b) (Answered Yes) right = record {
   yes = (λ _. right, λ _. refl);
   no = λ not_included. absurd (not_included right);
+  sure = λ _ _ not_included. absurd (not_included right);
 }
 IsLineFor-from_right structures (inclusion a b) (Answered (No o)) right = record {
   yes = (
@@ -36,10 +38,12 @@ IsLineFor-from_right structures (inclusion a b) (Answered (No o)) right = record
     λ included. absurd (right.outside (within_high structures b (lisp_object o) (included (lisp_object o) right.is_object (low_within structures a (lisp_object o) right.inside)))),
   );
   no = λ _. inl (o, refl, right);
+  sure = λ _ _ _. (o, refl, right);
 }
 IsLineFor-from_right structures (inclusion a b) (Answered (Unsure o)) right = record {
   yes = (λ e. absurd (cc), λ included. absurd (right.outside (included right.marked right.is_object right.inside)));
   no = λ _. inr (o, refl, right);
+  sure = λ free_a free_b _. absurd (sure-no_predicate structures a b (lisp_object o) free_a free_b right);
 }
 IsLineFor-from_right structures (inclusion a b) NotBuilt right = absurd right
 IsLineFor-from_right structures not_built NotBuilt right = refl

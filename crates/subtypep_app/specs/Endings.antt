@@ -10,6 +10,7 @@ use Rattle.ls_reader.specs.declared.datum.Datum.{Datum}
 use Rattle.ls_reader.specs.Forms.{Forms}
 use Rattle.ls_reader.specs.Answers.{HasNoForms}
 use Rattle.ls_spec.specs.Specifier.{Specifier}
+use Rattle.ls_spec.specs.Approximation.{HasNoPredicate}
 use Rattle.ls_spec.specs.Inclusion.{IsIncluded, IsWitness, IsUnsureWitness}
 use Rattle.subtypep_app.specs.declared.answer.Answer.TheVariants.{Yes, No, Unsure}
 use Rattle.subtypep_app.specs.declared.line.Line.{Line}
@@ -147,16 +148,20 @@ Completes words before now status = (command : Command) (text : List ℕ)
 
 -- ---- what is answered
 
--- the line has a witness, or it is unsure and has an object that shows why
-abbrev pub ShowsWhy : Structures → Specifier → Specifier → Line → Type 0
-ShowsWhy structures a b line =
-    ((o : Object) × (line ≡ Answered (No o)) × IsWitness structures a b (lisp_object o))
-    ⊎ ((o : Object) × (line ≡ Answered (Unsure o)) × IsUnsureWitness structures a b (lisp_object o))
+-- the line has an object of the first type outside the second
+abbrev pub HasWitness : Structures → Specifier → Specifier → Line → Type 0
+HasWitness structures a b line = (o : Object) × (line ≡ Answered (No o)) × IsWitness structures a b (lisp_object o)
 
--- The line says Yes exactly where the first type is included in the second, and otherwise shows why it is not.
+-- the line is unsure, and has an object that shows why
+abbrev pub HasUnsureWitness : Structures → Specifier → Specifier → Line → Type 0
+HasUnsureWitness structures a b line = (o : Object) × (line ≡ Answered (Unsure o)) × IsUnsureWitness structures a b (lisp_object o)
+
+-- The line says Yes exactly where the first type is included in the second. Otherwise it has a witness, or it is
+-- unsure, which it never is without predicates.
 pub record IsDecided (structures : Structures) (a b : Specifier) (line : Line) : Type 0 where
   pub yes : (line ≡ Answered Yes) ↔ IsIncluded structures a b
-  pub no : (IsIncluded structures a b → ⊥) → ShowsWhy structures a b line
+  pub no : (IsIncluded structures a b → ⊥) → HasWitness structures a b line ⊎ HasUnsureWitness structures a b line
+  pub sure : HasNoPredicate a → HasNoPredicate b → (IsIncluded structures a b → ⊥) → HasWitness structures a b line
 
 -- the line decides what was asked, or refuses what is not built
 abbrev pub IsLineFor : Structures → Question → Line → Type 0
