@@ -16,6 +16,9 @@ use ls_object::{Items, Object, Rat, Shape, Symbol, Text};
 use ls_spec::{Spec, belongs};
 use std::alloc::{AllocError, Global};
 
+#[cfg(test)]
+mod tests;
+
 /// An integer, as an object.
 fn integer_object(alloc: Global, value: i128) -> Object
     requires { unsigned_abs value < 2 ^ 66 }
