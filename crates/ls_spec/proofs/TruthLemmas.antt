@@ -1,7 +1,6 @@
 -- The truth value decides membership, where what was learnt is right.
-use Rattle.std.proofs.Common.{ℕ, ℤ, pos, ◌≡◌, ◌<◌, ◌≤◌, ◌≤ℤ◌, ◌<ℤ◌, ◌*ℤ◌, refl, ap, sym, subst, ◌∙◌, Bool, true, false, not, ◌&&◌, ◌||◌, ◌==◌, int_le, int_lt, nat_eq, nat_le, List, [], ◌∷◌, Option, Some, None, Decides, arith, codes, slice_get, ◌⊎◌}
+use Rattle.std.proofs.Common.{ℕ, ℤ, pos, ◌≡◌, ◌<◌, ◌≤◌, ◌≤ℤ◌, ◌<ℤ◌, ◌*ℤ◌, refl, ap, sym, subst, ◌∙◌, Bool, true, false, ◌&&◌, ◌==◌, int_le, int_lt, nat_eq, nat_le, List, [], ◌∷◌, Option, Some, None, Decides, arith, codes, slice_get}
 use Rattle.std.specs.List.{list_any, Contains}
-use Rattle.std.specs.Ordering.{int_eq}
 use Rattle.std.specs.Cmp.Lexicographic.{pointwise}
 use Rattle.std.proofs.lemmas.Bool.Decides.{Decides-and, Decides-or, Decides-not, Decides-int_eq, Decides-eqb, Decides-ltb, Decides-at}
 use Rattle.std.proofs.lemmas.List.Folds.{Any-from_list_any, list_any-from_Any}

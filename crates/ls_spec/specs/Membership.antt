@@ -4,7 +4,6 @@ use Rattle.std.specs.List.{Contains}
 use Rattle.ls_object.specs.declared.kind.Kind.{Kind}
 use Rattle.ls_object.specs.declared.kind.Kind.TheVariants.{OtherStructure}
 use Rattle.ls_object.specs.declared.symbol.Symbol.{Symbol}
-use Rattle.ls_object.specs.declared.rat.Rat.{Rat}
 use Rattle.ls_object.specs.declared.table.TheConstants.{NIL_PLACE, BASE_CHAR_PLACE, CHARACTER_PLACE}
 use Rattle.ls_object.specs.declared.table.TheConstants.{TABLE_LEN}
 use Rattle.ls_object.specs.Universe.{LispObject, node, LispShape, number, character, symbol, pair, array, structure, opaque, Structures, IsObject}
