@@ -1,16 +1,8 @@
 -- Which specifier a datum denotes, one level at a time, and that its atoms are integers.
-use Rattle.std.proofs.Common.{◌≡◌, ℕ, ◌-◌, ◌≤◌, zero, suc, List, [], ◌∷◌, ◌++◌, refl, sym, ap, subst, ◌∙◌, arith, Option, Some, None, Bool, true, false, ◌&&◌, ◌==◌, IfSome, unsigned_abs, nat_le}
-use Rattle.std.proofs.lemmas.Bool.{cond_both}
-use Rattle.ls_object.specs.declared.rat.Rat.{Rat}
+use Rattle.std.proofs.Common.{◌≡◌, ℕ, ◌-◌, zero, suc, List, ◌++◌, refl, ap, arith, Option, Some, None}
 use Rattle.ls_reader.specs.declared.datum.Datum.{Datum}
-use Rattle.ls_reader.specs.declared.datum.Form.{Form, out-Form}
-use Rattle.ls_reader.specs.declared.datum.Form.TheOpen.{Form-F}
-use Rattle.ls_reader.specs.declared.datum.Literal.{Literal}
-use Rattle.ls_reader.specs.declared.datum.Literal.TheVariants as literal
-use Rattle.ls_spec.specs.declared.spec.Bound.{Bound}
-use Rattle.ls_spec.specs.declared.spec.Bound.TheVariants.{Free, Incl, Excl}
 use Rattle.ls_spec.specs.Specifier.{Specifier}
-use Rattle.subtypep_app.specs.Denoting.{is_limited, denoted, denoted_at, level}
+use Rattle.subtypep_app.specs.Denoting.{denoted, denoted_at, level}
 
 pub denoted_none : (n : ℕ) (d : Datum) → n ≡ 0 → denoted n d ≡ None
 unfolding denoted

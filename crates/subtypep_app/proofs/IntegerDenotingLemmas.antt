@@ -1,9 +1,8 @@
 -- A specifier that a datum denotes is one of integers.
-use Rattle.std.proofs.Common.{◌≡◌, ℕ, ◌≤◌, zero, suc, List, [], ◌∷◌, subst, sym, Option, Some, None, Bool, true, false, ◌&&◌, ◌==◌, IfOk, IfSome, Result, Ok, Err, unsigned_abs, nat_le, ◌^◌, refl, arith}
+use Rattle.std.proofs.Common.{◌≡◌, ℕ, zero, suc, List, [], ◌∷◌, subst, sym, Option, Some, None, Bool, true, false, ◌&&◌, ◌==◌, IfOk, IfSome, Result, Ok, Err, unsigned_abs, nat_le, refl, arith}
 use Rattle.std.proofs.lemmas.Bool.{cond_both}
-use Rattle.std.proofs.lemmas.Bool.Decides.{Decides-eqb, Decides-and}
+use Rattle.std.proofs.lemmas.Bool.Decides.{Decides-eqb}
 use Rattle.ls_object.specs.declared.rat.Rat.{Rat}
-use Rattle.ls_object.specs.declared.symbol.Symbol.{Symbol}
 use Rattle.ls_reader.specs.declared.datum.Datum.{Datum}
 use Rattle.ls_reader.specs.declared.datum.Form.{Form, out-Form}
 use Rattle.ls_reader.specs.declared.datum.Form.TheOpen.{Form-F}
@@ -11,7 +10,7 @@ use Rattle.ls_reader.specs.declared.datum.Literal.{Literal}
 use Rattle.ls_reader.specs.declared.datum.Literal.TheVariants as literal
 use Rattle.ls_spec.specs.declared.spec.Spec.{Spec}
 use Rattle.ls_spec.specs.declared.spec.Bound.{Bound}
-use Rattle.ls_spec.specs.declared.spec.Bound.TheVariants.{Free, Incl, Excl}
+use Rattle.ls_spec.specs.declared.spec.Bound.TheVariants.{Free}
 use Rattle.ls_spec.specs.Specifier.{Specifier}
 use Rattle.ls_spec.specs.Meaning.{specifier, specifiers_of}
 use Rattle.subtypep_app.specs.declared.look.TheConstants.{INTEGER_LIMIT}

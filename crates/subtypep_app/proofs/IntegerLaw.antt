@@ -1,28 +1,25 @@
 -- The cuts, one integer below them and one object that is no integer stand for all objects, where every atom is
 -- one of integers.
-use Rattle.std.proofs.Common.{ℕ, ℤ, pos, ◌+ℤ◌, ◌*ℤ◌, ◌≡◌, ◌∙◌, ◌≤◌, ◌<◌, ◌^◌, ◌<ℤ◌, sym, ap, subst, refl, Bool, true, false, not, ◌&&◌, ◌||◌, ◌==◌, int_le, int_lt, List, [], ◌∷◌, ◌++◌, Decides, arith, inl, inr, unsigned_abs, ◌⊎◌}
+use Rattle.std.proofs.Common.{ℤ, pos, ◌+ℤ◌, ◌*ℤ◌, ◌≡◌, ◌∙◌, sym, ap, subst, refl, Bool, true, false, not, ◌&&◌, ◌==◌, int_le, int_lt, List, [], ◌∷◌, ◌++◌, arith, inl, inr}
 use Rattle.std.specs.Ordering.{int_eq}
 use Rattle.std.specs.List.{AllByRecursion}
 use Rattle.std.proofs.lemmas.Int.{ints}
 use Rattle.std.proofs.lemmas.Bool.Decides.{Decides-eqb}
 use Rattle.ls_object.specs.declared.rat.Rat.{Rat}
 use Rattle.ls_object.specs.declared.symbol.Symbol.{Symbol}
-use Rattle.ls_object.specs.Universe.{LispObject, node, LispShape, number, character, symbol, pair, array, structure, opaque, Structures, IsObject, plain}
-use Rattle.ls_spec.specs.declared.spec.Point.{Point}
+use Rattle.ls_object.specs.Universe.{LispObject, node, LispShape, number, character, symbol, pair, array, structure, opaque, Structures}
 use Rattle.ls_spec.specs.declared.spec.Point.TheVariants as point
-use Rattle.ls_spec.specs.declared.spec.RangeKind.{RangeKind}
 use Rattle.ls_spec.specs.declared.spec.RangeKind.TheVariants.{Integer, Rational}
 use Rattle.ls_spec.specs.declared.spec.Bound.{Bound}
 use Rattle.ls_spec.specs.declared.spec.Bound.TheVariants.{Free, Incl, Excl}
 use Rattle.ls_spec.specs.Specifier.{Specifier, all_objects, no_objects, and_of, or_of, not_of, eql_to, range_of, chars_of, symbols_of, kind_of, structure_under, any_structure, array_any, array_of, string_of, cons_of, satisfies, Specifiers, no_more, also}
-use Rattle.ls_spec.specs.Membership.{Belongs}
-use Rattle.ls_spec.specs.Approximation.{bounded, bounded_all, low, high}
+use Rattle.ls_spec.specs.Approximation.{bounded, bounded_all}
 use Rattle.ls_spec.specs.Inclusion.{IsIncluded}
 use Rattle.ls_spec.specs.Truth.{holds, all_hold, some_holds, is_point, is_above, is_below, is_in_range, nothing_learnt, IsSelfContained, AreSelfContained}
 use Rattle.ls_spec.proofs.TruthLemmas.{Decides-self_contained}
 use Rattle.ls_spec.proofs.AlikeLemmas.{AllByRecursion-front, AllByRecursion-back}
 use Rattle.subtypep_app.specs.declared.integers.TheConstants.{BOTTOM}
-use Rattle.subtypep_app.specs.Integers.{IsLimitedInteger, IsIntegerBound, IsIntegerAtom, IsOfIntegers, AreOfIntegers, low_cut, high_cut, point_cuts, cuts, cuts_of_all, integer, IsCut, Passes}
+use Rattle.subtypep_app.specs.Integers.{IsLimitedInteger, IsIntegerBound, IsIntegerAtom, IsOfIntegers, AreOfIntegers, low_cut, high_cut, cuts, cuts_of_all, integer, IsCut, Passes}
 use Rattle.subtypep_app.proofs.NearestLemmas.{SomeByRecursion, SameCuts, AllAbove, represented}
 
 -- ---- one bound

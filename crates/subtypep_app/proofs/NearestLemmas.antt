@@ -1,5 +1,5 @@
 -- For each integer, the nearest cut at or below it, or any integer below all cuts, has the same cuts at or below it.
-use Rattle.std.proofs.Common.{ℕ, ℤ, ◌≡◌, ◌≤ℤ◌, ◌<ℤ◌, ◌⊎◌, inl, inr, Bool, true, false, int_le, refl, List, [], ◌∷◌, ◌++◌, arith}
+use Rattle.std.proofs.Common.{ℤ, ◌≡◌, ◌≤ℤ◌, ◌<ℤ◌, ◌⊎◌, inl, inr, int_le, refl, List, [], ◌∷◌, arith}
 use Rattle.std.specs.List.{AllByRecursion}
 use Rattle.std.proofs.lemmas.Int.{ints, by_lt_z}
 

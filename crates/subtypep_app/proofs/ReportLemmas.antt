@@ -1,15 +1,14 @@
 -- The report on the forms so far, with the line of one more form.
-use Rattle.std.proofs.Common.{ℕ, ◌+◌, ◌<◌, ◌≡◌, ◌∙◌, sym, ap, subst, refl, List, [], ◌∷◌, ◌++◌, append_assoc, append-nil, take, length, get_or, filter, Bool, true, false, ◌||◌, Option, Some, None, ◌⊎◌, inl, inr, cond}
+use Rattle.std.proofs.Common.{ℕ, ◌+◌, ◌<◌, ◌≡◌, ◌∙◌, sym, ap, subst, refl, List, [], ◌∷◌, ◌++◌, append_assoc, append-nil, take, length, get_or, Bool, true, false, ◌||◌, Option, Some, None, inl, inr, cond}
 use Rattle.std.specs.List.{AllZip, list_any}
 use Rattle.std.specs.Option.{is_some}
 use Rattle.std.proofs.lemmas.List.{take_more}
 use Rattle.std.proofs.lemmas.List.Elements.{filter-append}
 use Rattle.std.proofs.lemmas.List.Folds.{list_any-append}
 use mathlib.Core.Bool.{or-false}
-use Rattle.ls_object.specs.Universe.{Structures}
 use Rattle.ls_reader.specs.declared.datum.Datum.{Datum}
 use Rattle.subtypep_app.specs.declared.line.Line.{Line}
-use Rattle.subtypep_app.specs.Queries.{Question, question_of, queries, structures_of}
+use Rattle.subtypep_app.specs.Queries.{Question, question_of, queries}
 use Rattle.subtypep_app.specs.Report.{IsRightLine, IsReport, line_text, lines_text, is_finding}
 use Rattle.subtypep_app.specs.Reporting.{Reported, LineAppended, NothingAppended}
 

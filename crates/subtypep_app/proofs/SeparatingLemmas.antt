@@ -1,11 +1,10 @@
 -- Objects that separate two types.
-use Rattle.std.proofs.Common.{ℕ, ℤ, ◌≡◌, ◌<◌, refl, subst, sym, List, [], ◌∷◌, ◌++◌, lit<, true, false, Option, Some, None, MatchOption}
+use Rattle.std.proofs.Common.{ℤ, ◌≡◌, refl, subst, sym, List, ◌++◌, lit<, true, false, Option, Some, None, MatchOption}
 use Rattle.std.proofs.Math.Nat.{one-dvd}
 use Rattle.std.specs.List.{AllByRecursion}
-use Rattle.ls_object.specs.Universe.{LispObject, node, number, symbol, Structures, IsObject, IsPlain, plain}
+use Rattle.ls_object.specs.Universe.{LispObject, Structures, IsObject}
 use Rattle.ls_object.specs.Writing.{IsWritable}
 use Rattle.ls_spec.specs.Specifier.{Specifier}
-use Rattle.ls_spec.specs.Approximation.{low, high}
 use Rattle.ls_spec.specs.Membership.{Belongs}
 use Rattle.ls_spec.specs.Inclusion.{IsWitness, IsIncluded}
 use Rattle.ls_object.specs.declared.object.Object.{Object}

@@ -1,5 +1,5 @@
 -- Which specifier a datum denotes (4.2.3).
-use Rattle.std.specs.Prelude.{ℕ, zero, suc, ◌≡◌, ◌&&◌, ◌==◌, nat_le, Bool, if◌then◌else◌, List, [], ◌∷◌, Option, Some, None, unsigned_abs}
+use Rattle.std.specs.Prelude.{ℕ, zero, suc, ◌&&◌, ◌==◌, nat_le, Bool, if◌then◌else◌, List, [], ◌∷◌, Option, Some, None, unsigned_abs}
 use Rattle.ls_object.specs.declared.rat.Rat.{Rat}
 use Rattle.ls_reader.specs.declared.datum.Datum.{Datum}
 use Rattle.ls_reader.specs.declared.datum.Form.{Form, out-Form}

@@ -1,6 +1,5 @@
 -- Specifiers of integers, and the integers at which membership in them may change.
-use Rattle.std.specs.Prelude.{◌≡◌, ℕ, ℤ, pos, ◌+ℤ◌, ◌≤◌, ◌<◌, ◌^◌, ◌<ℤ◌, List, [], ◌∷◌, ◌++◌, codes, unsigned_abs}
-use Rattle.std.specs.List.{AllByRecursion}
+use Rattle.std.specs.Prelude.{◌≡◌, ℤ, pos, ◌+ℤ◌, ◌≤◌, ◌<◌, ◌^◌, ◌<ℤ◌, List, [], ◌∷◌, ◌++◌, codes, unsigned_abs}
 use Rattle.ls_object.specs.declared.rat.Rat.{Rat}
 use Rattle.ls_object.specs.declared.symbol.Symbol.{Symbol}
 use Rattle.ls_object.specs.Universe.{LispObject, node, number, symbol, Structures, IsObject}

@@ -1,5 +1,5 @@
 -- The queries of a text: its top-level forms that ask for an inclusion (SUBTYPEP).
-use Rattle.std.specs.Prelude.{ℕ, List, [], ◌∷◌, filter, Option, Some, None}
+use Rattle.std.specs.Prelude.{List, [], ◌∷◌, filter, Option, Some, None}
 use Rattle.std.specs.Option.{is_some}
 use Rattle.ls_object.specs.Universe.{Structures}
 use Rattle.ls_reader.specs.declared.datum.Datum.{Datum}

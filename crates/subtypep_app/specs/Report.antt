@@ -1,5 +1,5 @@
 -- The report on a text: a right line for each query, or the one line of a text that can't be read.
-use Rattle.std.specs.Prelude.{◌≡◌, ℕ, ◌<◌, ◌≤◌, ◌⊎◌, Bool, true, false, List, [], ◌∷◌, ◌++◌, length, Option, Some, None, codes, decimal, encode_utf8_all}
+use Rattle.std.specs.Prelude.{◌≡◌, ℕ, ◌<◌, ◌≤◌, ◌⊎◌, Bool, true, false, List, [], ◌∷◌, ◌++◌, length, Option, Some, codes, decimal}
 use Rattle.std.specs.List.{AllZip, list_any}
 use Rattle.ls_io.specs.Moves.{limit}
 use Rattle.ls_object.specs.Universe.{Structures}

@@ -1,5 +1,5 @@
 -- What is appended for one form.
-use Rattle.std.specs.Prelude.{◌≡◌, ℕ, Bool, true, false, List, [], ◌∷◌, ◌++◌, ◌⊎◌, None}
+use Rattle.std.specs.Prelude.{◌≡◌, ℕ, Bool, true, false, List, ◌++◌, ◌⊎◌, None}
 use Rattle.ls_object.specs.Universe.{Structures}
 use Rattle.ls_reader.specs.declared.datum.Datum.{Datum}
 use Rattle.subtypep_app.specs.declared.line.Line.{Line}

@@ -1,10 +1,9 @@
-use Rattle.std.proofs.Common.{◌≡◌, ◌<◌, ◌≤◌, ◌^◌, to_z, of_z, arith}
+use Rattle.std.proofs.Common.{arith}
 use Rattle.std.proofs.lemmas.Bool.Decides.{when_true, when_false}
 use Rattle.std.proofs.lemmas.Int.{to_z-of_z, fits_signed_from_abs}
 use mir.Syntax.{w128}
 use Rattle.ls_spec.specs.Meaning.{specifier}
 use Rattle.ls_object.specs.Meaning.{lisp_object}
-use Rattle.subtypep_app.specs.Integers.{integer}
 use Rattle.subtypep_app.proofs.SeparatingLemmas.{IsSeparating-integer, Passes-integer}
 use Rattle.subtypep_app.proofs.decide.separating_integer.Goals as goal
 

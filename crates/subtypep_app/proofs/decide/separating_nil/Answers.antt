@@ -1,6 +1,5 @@
 use Rattle.std.proofs.lemmas.Bool.Decides.{when_true, when_false}
 use Rattle.ls_spec.specs.Meaning.{specifier}
-use Rattle.ls_object.specs.Meaning.{lisp_object}
 use Rattle.subtypep_app.proofs.SeparatingLemmas.{IsSeparating-nil, Passes-nil}
 use Rattle.subtypep_app.proofs.decide.separating_nil.Goals as goal
 

@@ -1,4 +1,4 @@
-use Rattle.std.proofs.Common.{◌≡◌, ◌++◌, ◌∙◌, ap, sym}
+use Rattle.std.proofs.Common.{◌++◌, ◌∙◌, ap, sym}
 use Rattle.subtypep_app.specs.Report.{body_text}
 use Rattle.subtypep_app.proofs.AppendLemmas.{appended_twice}
 use Rattle.subtypep_app.proofs.line.push_body.Goals as goal

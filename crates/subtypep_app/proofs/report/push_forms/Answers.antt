@@ -1,4 +1,4 @@
-use Rattle.std.proofs.Common.{◌≡◌, ◌||◌, subst, arith, get_or}
+use Rattle.std.proofs.Common.{◌≡◌, ◌||◌, subst, arith}
 use Rattle.subtypep_app.specs.Reporting.{Reported}
 use Rattle.subtypep_app.proofs.ReportLemmas.{IsReport-more}
 use Rattle.subtypep_app.proofs.report.push_forms.Goals as goal
