@@ -13,11 +13,10 @@ use Rattle.ls_spec.specs.declared.spec.RangeKind.TheVariants.{Integer, Rational}
 use Rattle.ls_spec.specs.declared.spec.Bound.{Bound}
 use Rattle.ls_spec.specs.declared.spec.Bound.TheVariants.{Free, Incl, Excl}
 use Rattle.ls_spec.specs.Specifier.{Specifier, all_objects, no_objects, and_of, or_of, not_of, eql_to, range_of, chars_of, symbols_of, kind_of, structure_under, any_structure, array_any, array_of, string_of, cons_of, satisfies, Specifiers, no_more, also}
-use Rattle.ls_spec.specs.Approximation.{bounded, HasNoPredicate, HaveNoPredicate}
+use Rattle.ls_spec.specs.Approximation.{bounded, bounded_all}
 use Rattle.ls_spec.specs.Inclusion.{IsIncluded}
 use Rattle.ls_spec.specs.Truth.{holds, all_hold, some_holds, is_point, is_above, is_below, is_in_range, nothing_learnt, IsSelfContained, AreSelfContained}
 use Rattle.ls_spec.proofs.TruthLemmas.{Decides-self_contained}
-use Rattle.ls_spec.proofs.PlainLemmas.{bounded-no_predicate}
 use Rattle.ls_spec.proofs.AlikeLemmas.{AllByRecursion-front, AllByRecursion-back}
 use Rattle.subtypep_app.specs.declared.integers.TheConstants.{BOTTOM}
 use Rattle.subtypep_app.specs.Integers.{IsLimitedInteger, IsIntegerBound, IsIntegerAtom, IsOfIntegers, AreOfIntegers, low_cut, high_cut, cuts, cuts_of_all, integer, IsCut, Passes}
@@ -208,22 +207,18 @@ mutual
   AreSelfContained-integers (also s ss) is = (IsSelfContained-integers s is.0, AreSelfContained-integers ss is.1)
 
 mutual
-  -- they have no predicates
-  HasNoPredicate-integers : (s : Specifier) → IsOfIntegers s → HasNoPredicate s
-  HasNoPredicate-integers (and_of ss) is = HaveNoPredicate-integers ss is
-  HasNoPredicate-integers (or_of ss) is = HaveNoPredicate-integers ss is
-  HasNoPredicate-integers (not_of s) is = HasNoPredicate-integers s is
-  HasNoPredicate-integers (cons_of a b) is = absurd is
-  HasNoPredicate-integers (satisfies p) is = absurd is
-  HasNoPredicate-integers _ is = tt
+  -- they have no predicates, so each is its own approximation
+  pub bounded-integers : (upper : Bool) (s : Specifier) → IsOfIntegers s → bounded upper s ≡ s
+  bounded-integers upper (and_of ss) is = ap and_of (bounded_all-integers upper ss is)
+  bounded-integers upper (or_of ss) is = ap or_of (bounded_all-integers upper ss is)
+  bounded-integers upper (not_of s) is = ap not_of (bounded-integers (not upper) s is)
+  bounded-integers upper (cons_of a b) is = absurd is
+  bounded-integers upper (satisfies p) is = absurd is
+  bounded-integers upper _ is = refl
 
-  HaveNoPredicate-integers : (ss : Specifiers) → AreOfIntegers ss → HaveNoPredicate ss
-  HaveNoPredicate-integers no_more is = tt
-  HaveNoPredicate-integers (also s ss) is = (HasNoPredicate-integers s is.0, HaveNoPredicate-integers ss is.1)
-
--- so each is its own approximation
-pub bounded-integers : (upper : Bool) (s : Specifier) → IsOfIntegers s → bounded upper s ≡ s
-bounded-integers upper s is = bounded-no_predicate upper s (HasNoPredicate-integers s is)
+  bounded_all-integers : (upper : Bool) (ss : Specifiers) → AreOfIntegers ss → bounded_all upper ss ≡ ss
+  bounded_all-integers upper no_more is = refl
+  bounded_all-integers upper (also s ss) is = let e = bounded-integers upper s is.0 in let f = bounded_all-integers upper ss is.1 in cc
 
 -- ---- cuts
 
