@@ -14,7 +14,6 @@ use Rattle.ls_reader.specs.declared.token.Token.TheVariants as token
 use Rattle.ls_reader.specs.declared.frame.Frame.{Frame}
 use Rattle.ls_reader.specs.declared.frame.Frame.TheVariants as frame
 use Rattle.ls_reader.specs.declared.builder.Builder.{Builder}
-use Rattle.ls_reader.specs.Machine as machine
 use Rattle.ls_reader.specs.Data as made
 use Rattle.ls_reader.specs.Machine.{Found, put, begin, close, step}
 use Rattle.ls_reader.specs.Lexemes.{Extent, Piece, piece}

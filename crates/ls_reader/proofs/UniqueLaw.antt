@@ -15,9 +15,8 @@ use Rattle.ls_reader.specs.declared.token.Token.{Token}
 use Rattle.ls_reader.specs.declared.token.Token.TheVariants as token
 use Rattle.ls_reader.specs.Places.{start, after_all}
 use Rattle.ls_reader.specs.Lexing.{lexeme}
-use Rattle.ls_reader.specs.Machine as machine
 use Rattle.ls_reader.specs.Data as made
-use Rattle.ls_reader.specs.Machine.{put, step, begin, finish, nothing, Found}
+use Rattle.ls_reader.specs.Machine.{step, begin, finish, nothing, Found}
 use Rattle.ls_reader.specs.Lexemes.{IsLexeme, Lexeme, Lexed, Extent, Piece, piece, pieces, text_of}
 use Rattle.ls_reader.specs.Trees.{Tree, atom, list, marked, Trees, none, more, trees, tree_pieces, trees_pieces, yields, data_of, IsOne, Fits, AllFit, Opening, list_of, mark_of, opening_pieces, begun_pieces, OpeningFits, AreBegun, Begun}
 use Rattle.ls_reader.specs.Forms.{FormsIn}

@@ -1,6 +1,6 @@
 -- How the reader goes on from one token to the next, with the constructs begun and not ended, the innermost first.
 -- Nothing of this needs to be believed: it is what the code does, and the grammar of Forms.antt is proved of it.
-use Rattle.std.specs.Prelude.{ℕ, ◌≡◌, nat_lt, if◌then◌else◌, List, [], ◌∷◌, ◌++◌, length, Result, Ok, Err}
+use Rattle.std.specs.Prelude.{◌≡◌, nat_lt, if◌then◌else◌, List, [], ◌∷◌, ◌++◌, length, Result, Ok, Err}
 use Rattle.ls_reader.specs.declared.place.Place.{Place}
 use Rattle.ls_reader.specs.declared.datum.Datum.{Datum}
 use Rattle.ls_reader.specs.declared.fault.FaultKind.{FaultKind}

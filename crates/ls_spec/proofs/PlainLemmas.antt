@@ -1,12 +1,12 @@
 -- Without predicates marks change nothing: an object belongs to a specifier where its plain form does.
-use Rattle.std.proofs.Common.{◌≡◌, ap, sym, subst, refl, Bool, true, false, not, inl, inr, List, [], ◌∷◌}
-use Rattle.ls_object.specs.Universe.{LispObject, node, LispShape, number, character, symbol, pair, array, structure, opaque, Structures, IsObject, IsShape, IsPlain, plain, plain_shape}
+use Rattle.std.proofs.Common.{◌≡◌, ap, sym, subst, refl, Bool, true, false, not, inl, inr, [], ◌∷◌}
+use Rattle.ls_object.specs.Universe.{LispObject, node, LispShape, number, character, symbol, pair, array, structure, opaque, Structures, IsObject, IsShape, plain, plain_shape}
 use Rattle.ls_spec.specs.declared.spec.Point.{Point}
 use Rattle.ls_spec.specs.declared.spec.Point.TheVariants as point
 use Rattle.ls_spec.specs.Specifier.{Specifier, all_objects, no_objects, and_of, or_of, not_of, eql_to, range_of, chars_of, symbols_of, kind_of, structure_under, any_structure, array_any, array_of, string_of, cons_of, satisfies, Specifiers, no_more, also}
-use Rattle.ls_spec.specs.Membership.{IsPoint, IsInRange, IsCharIn, IsSymbolIn, IsOfKind, IsStructureUnder, IsAnyStructure, MatchesDimensions, MatchesPlaces, IsArrayWith, IsStringCode, IsPairOf, IsFirstHolding, Belongs, BelongsToAll, BelongsToSome}
-use Rattle.ls_spec.specs.Approximation.{bounded, bounded_all, low, high, HasNoPredicate, HaveNoPredicate}
-use Rattle.ls_spec.specs.Inclusion.{IsWitness, IsUnsureWitness}
+use Rattle.ls_spec.specs.Membership.{IsPoint, IsInRange, IsCharIn, IsSymbolIn, IsOfKind, IsStructureUnder, IsAnyStructure, MatchesDimensions, MatchesPlaces, IsArrayWith, IsStringCode, IsFirstHolding, Belongs, BelongsToAll, BelongsToSome}
+use Rattle.ls_spec.specs.Approximation.{bounded, bounded_all, HasNoPredicate, HaveNoPredicate}
+use Rattle.ls_spec.specs.Inclusion.{IsUnsureWitness}
 
 -- ---- plain forms
 
