@@ -6,6 +6,8 @@
 mod laws;
 mod membership;
 mod spec;
+#[cfg(test)]
+mod tests;
 
 pub use laws::{approximations, one_right_answer, one_upgraded_code};
 pub use membership::belongs;

@@ -123,6 +123,17 @@ fn texts_are_answered(rt: HostRuntime) -> Result<(), Fail> {
     Ok(())
 }
 
+/// Any object may be the witness.
+#[test]
+fn t_is_not_included_in_nil(rt: HostRuntime) -> Result<(), Fail> {
+    let got = outcome_of(rt.alloc(), &Case::ask(b"(subtypep t nil)"))?;
+    let report = got.bytes.as_slice();
+    assert!(rt; report.starts_with(b"1:1 NIL WITNESS "));
+    assert!(rt; report.ends_with(b"\n"));
+    assert_eq!(rt; got.status, Status::Clean);
+    Ok(())
+}
+
 #[test]
 fn words_without_a_meaning_leave_the_text_unread(rt: HostRuntime) -> Result<(), Fail> {
     let lists: [&[&str]; 5] = [

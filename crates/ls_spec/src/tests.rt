@@ -1,0 +1,132 @@
+// Membership of objects in specifiers: both sides of each bound and class. What is expected is worked out by hand
+// from the standard.
+
+ghost use Rattle.std.specs.Prelude.{IfOk};
+ghost use Rattle.ls_spec.specs.Meaning.{specifier};
+ghost use Rattle.ls_spec.specs.Truth.{IsSelfContained};
+
+use crate::{Bound, CharClass, Point, RangeKind, Spec, SymClass, belongs};
+use ls_object::{Boxed, Items, Object, Rat, Shape, Symbol, Text};
+use std::alloc::{AllocError, Global};
+use std::test::Fail;
+
+/// The object of the shape that has no marks.
+fn plain(alloc: Global, shape: Shape) -> Object {
+    Object {
+        marks: Items::new(alloc),
+        shape,
+    }
+}
+
+/// Whether the object is of (INTEGER 0 (10)).
+fn is_digit(object: &Object) -> bool {
+    let digits = Spec::Range {
+        kind: RangeKind::Integer,
+        lo: Bound::Incl(Rat::integer(0)),
+        hi: Bound::Excl(Rat::integer(10)),
+    };
+    belongs(&digits, object)
+}
+
+/// Whether the object is of (RATIONAL (0) *).
+fn is_positive(object: &Object) -> bool {
+    let positive = Spec::Range {
+        kind: RangeKind::Rational,
+        lo: Bound::Excl(Rat::integer(0)),
+        hi: Bound::Free,
+    };
+    belongs(&positive, object)
+}
+
+#[test]
+fn numbers_belong_to_ranges(rt: HostRuntime) -> Result<(), Fail> {
+    // A numerator, a denominator, and whether the number is a digit and whether it is positive.
+    let rows = [
+        (0, 1, true, false),
+        (9, 1, true, true),
+        (10, 1, false, true),
+        (-1, 1, false, false),
+        (1, 2, false, true),
+        (4, 2, true, true),
+    ];
+    for (num, den, digit, positive) in rows {
+        let number = Rat::new(num, den).ok_or("the number is within the limits")?;
+        let object = plain(rt.alloc(), Shape::Number(number));
+        assert_eq!(rt; is_digit(&object), digit, "{num}/{den}");
+        assert_eq!(rt; is_positive(&object), positive, "{num}/{den}");
+    }
+    Ok(())
+}
+
+#[test]
+fn characters_belong_to_classes(rt: HostRuntime) -> Result<(), Fail> {
+    // A character, and whether it is a BASE-CHAR, a STANDARD-CHAR and EQL to #\A.
+    let rows = [
+        ('A', true, true, true),
+        ('\n', true, true, false),
+        ('\t', true, false, false),
+        ('\u{7f}', true, false, false),
+        ('\u{80}', false, false, false),
+    ];
+    for (c, base, standard, same) in rows {
+        let object = plain(rt.alloc(), Shape::Char(c));
+        assert_eq!(rt;
+            belongs(&Spec::Chars(CharClass::Base), &object),
+            base,
+            "{c}"
+        );
+        assert_eq!(rt;
+            belongs(&Spec::Chars(CharClass::Standard), &object),
+            standard,
+            "{c}"
+        );
+        assert_eq!(rt; belongs(&Spec::Eql(Point::Char('A')), &object), same, "{c}");
+    }
+    Ok(())
+}
+
+/// The symbol CAR of the package.
+fn car_of(alloc: Global, package: &str) -> Result<Object, AllocError> {
+    let package = Text::of(alloc, package)?;
+    let name = Text::of(alloc, "CAR")?;
+    Ok(plain(alloc, Shape::Sym(Symbol { package, name })))
+}
+
+#[test]
+fn symbols_belong_by_their_package(rt: HostRuntime) -> Result<(), Fail> {
+    for (package, keyword) in [("COMMON-LISP", false), ("KEYWORD", true)] {
+        let symbol = car_of(rt.alloc(), package)?;
+        assert!(rt; belongs(&Spec::Symbols(SymClass::Any), &symbol));
+        assert_eq!(rt;
+            belongs(&Spec::Symbols(SymClass::Keyword), &symbol),
+            keyword
+        );
+    }
+    Ok(())
+}
+
+/// The pair of 1 and 2.
+fn pair(alloc: Global) -> Result<Object, AllocError> {
+    let car = Boxed::new(alloc, plain(alloc, Shape::Number(Rat::integer(1))))?;
+    let cdr = Boxed::new(alloc, plain(alloc, Shape::Number(Rat::integer(2))))?;
+    Ok(plain(alloc, Shape::Pair(car, cdr)))
+}
+
+/// (CONS (EQL car) (EQL cdr)).
+fn pairs_of(alloc: Global, car: Rat, cdr: Rat) -> Result<Spec, AllocError>
+    ensures { IfOk result (λ spec. IsSelfContained (specifier spec)) }
+{
+    let car = Boxed::new(alloc, Spec::Eql(Point::Number(car)))?;
+    let cdr = Boxed::new(alloc, Spec::Eql(Point::Number(cdr)))?;
+    Ok(Spec::ConsOf(car, cdr))
+}
+
+#[test]
+fn a_pair_belongs_by_both_parts(rt: HostRuntime) -> Result<(), Fail> {
+    let pair = pair(rt.alloc())?;
+    for (car, cdr, belonging) in [(1, 2, true), (1, 1, false), (2, 2, false)] {
+        let spec = pairs_of(rt.alloc(), Rat::integer(car), Rat::integer(cdr))?;
+        assert_eq!(rt; belongs(&spec, &pair), belonging, "{car} and {cdr}");
+    }
+    Ok(())
+}
