@@ -107,7 +107,7 @@ fn with_sign_of(num: i128, size: u128) -> i128
 }
 
 /// The greatest common divisor.
-pub fn gcd(a: u128, b: u128) -> u128
+fn gcd(a: u128, b: u128) -> u128
     ensures { IsGcd a b result }
 {
     let mut x = a;

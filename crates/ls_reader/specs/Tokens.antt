@@ -1,5 +1,5 @@
 -- What a token is (2.3).
-use Rattle.std.specs.Prelude.{ℕ, if◌then◌else◌, List, [], ◌∷◌, map}
+use Rattle.std.specs.Prelude.{ℕ, if◌then◌else◌, List, map, codes}
 use Rattle.std.specs.Char.{to_ascii_uppercase}
 use Rattle.ls_object.specs.declared.symbol.Symbol.{Symbol}
 use Rattle.ls_reader.specs.declared.datum.Form.{Form, roll-Form}
@@ -9,13 +9,13 @@ use Rattle.ls_reader.specs.declared.token.Token.{Token}
 use Rattle.ls_reader.specs.declared.token.Token.TheVariants as token
 use Rattle.ls_reader.specs.Numbers.{is_integer, is_float, is_negative, magnitude, literal_of}
 
--- COMMON-LISP, the name of the package
+-- the name of the package of all symbols
 abbrev pub common_lisp : List ℕ
-common_lisp = 67 ∷ 79 ∷ 77 ∷ 77 ∷ 79 ∷ 78 ∷ 45 ∷ 76 ∷ 73 ∷ 83 ∷ 80 ∷ []
+common_lisp = codes "COMMON-LISP"
 
--- NIL, the name of the symbol
+-- the name of the symbol NIL
 abbrev pub nil_name : List ℕ
-nil_name = 78 ∷ 73 ∷ 76 ∷ []
+nil_name = codes "NIL"
 
 -- the symbol of that name in the package COMMON-LISP
 abbrev pub symbol_named : List ℕ → Symbol

@@ -1,7 +1,7 @@
 ghost use Rattle.std.specs.Prelude.{◌≡◌, ◌≤◌, ◌∷◌, map, length, IfOk};
 ghost use Rattle.std.specs.Char.{to_ascii_uppercase};
 ghost use Rattle.ls_reader.specs.Characters as spec;
-ghost use Rattle.ls_reader.specs.Tokens.{common_lisp, nil_name, symbol_named, token_of};
+ghost use Rattle.ls_reader.specs.Tokens.{nil_name, symbol_named, token_of};
 ghost use Rattle.ls_reader.specs.Lexing.{Gives, token_at, lexeme};
 
 use crate::datum::Form;
@@ -44,25 +44,11 @@ fn upper_case(alloc: Global, text: &[char]) -> Result<Text, AllocError>
     Ok(name)
 }
 
-/// The name of the package of all symbols.
-fn common_lisp(alloc: Global) -> Result<Text, AllocError>
-    ensures { IfOk result (λ t. t ≡ common_lisp) }
-{
-    Text::of(alloc, "COMMON-LISP")
-}
-
-/// The name of the symbol NIL.
-fn nil_name(alloc: Global) -> Result<Text, AllocError>
-    ensures { IfOk result (λ t. t ≡ nil_name) }
-{
-    Text::of(alloc, "NIL")
-}
-
 /// The symbol NIL, which the empty list is.
 pub(crate) fn nil(alloc: Global) -> Result<Symbol, AllocError>
     ensures { IfOk result (λ s. s ≡ symbol_named nil_name) }
 {
-    let name = nil_name(alloc)?;
+    let name = Text::of_ascii(alloc, "NIL")?;
     symbol_named(alloc, name)
 }
 
@@ -71,7 +57,7 @@ fn symbol_named(alloc: Global, name: Text) -> Result<Symbol, AllocError>
     ensures { IfOk result (λ s. s ≡ symbol_named name) }
 {
     Ok(Symbol {
-        package: common_lisp(alloc)?,
+        package: Text::of_ascii(alloc, "COMMON-LISP")?,
         name,
     })
 }

@@ -15,7 +15,7 @@ mod token;
 
 pub use datum::{Datum, FloatFormat, Form, Literal, Span};
 pub use fault::ReadError;
-pub use reader::{one_answer, read_text};
+pub use reader::{MAX_LEN, one_answer, read_text};
 
 #[cfg(test)]
 mod tests;

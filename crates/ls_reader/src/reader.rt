@@ -4,6 +4,7 @@ ghost use Rattle.ls_reader.specs.Forms.{Forms, FormsIn};
 ghost use Rattle.ls_reader.specs.Answers.{FailsIn, FailsAt, FailsBefore, past, IsFaultOf, ReadsAs, IsRefusal};
 ghost use Rattle.ls_reader.specs.Running.{reading, advance, Turns, IsSmall, failure_at};
 ghost use Rattle.ls_reader.specs.declared.datum.Datum.{Datum};
+ghost use Rattle.ls_reader.specs.declared.reader.TheConstants.{MAX_LEN};
 
 use crate::builder::Builder;
 use crate::datum::Datum;
@@ -13,6 +14,9 @@ use crate::lexeme::lexeme;
 use crate::place::Place;
 use sqlite_items::Items;
 use std::alloc::Global;
+
+/// The greatest length of a text, in bytes.
+pub const MAX_LEN: usize = 16_777_216;
 
 /// What is left of a text, from where on, and what was read.
 #[derive(Drop)]
@@ -58,7 +62,7 @@ impl<'a> Reader<'a> {
 
 /// The data of a whole text.
 fn read_chars(alloc: Global, text: &[char]) -> Result<Items<Datum>, Failure>
-    requires { length text.now ≤ 16777216 }
+    requires { length text.now ≤ MAX_LEN }
     ensures ok { IfOk result (FormsIn text.now) }
     ensures err { IfErr result (FailsIn text.now) }
 {
@@ -88,7 +92,7 @@ fn past(failure: Failure, at: Place) -> Failure
 
 /// The fault of a text that a byte follows which the reader does not take.
 fn fault_before(alloc: Global, text: &[char], next: u8) -> Failure
-    requires { length text.now ≤ 16777216 }
+    requires { length text.now ≤ MAX_LEN }
     ensures { FailsBefore text.now next result }
 {
     let at = Place::start().after_all(text);
@@ -100,7 +104,7 @@ fn fault_before(alloc: Global, text: &[char], next: u8) -> Failure
 
 /// The data of bytes, or their first fault.
 fn read(alloc: Global, bytes: &[u8]) -> Result<Items<Datum>, Failure>
-    requires { length bytes.now ≤ 16777216 }
+    requires { length bytes.now ≤ MAX_LEN }
     ensures ok { IfOk result (Forms bytes.now) }
     ensures err { IfErr result (FailsAt bytes.now) }
 {
@@ -122,7 +126,7 @@ fn read(alloc: Global, bytes: &[u8]) -> Result<Items<Datum>, Failure>
 /// - `NotBuilt` at a float, at a parenthesis or a quote that would be 257 deep, and at a byte that is not taken,
 /// - `Memory` where there is none for the data.
 pub fn read_text(alloc: Global, bytes: &[u8]) -> Result<Items<Datum>, ReadError>
-    requires { length bytes.now ≤ 16777216 }
+    requires { length bytes.now ≤ MAX_LEN }
     // What is read is what the text says.
     ensures ok { IfOk result (Forms bytes.now) }
     // What the text says is read, unless memory runs out.
