@@ -1,3 +1,4 @@
+pub mod Symbols
 pub mod Universe
 pub mod Inclusion
 pub mod Table

@@ -120,10 +120,9 @@ fn texts_and_dimensions_are_built_and_copied(rt: HostRuntime) -> Result<(), Fail
     dims.push(2)?;
     dims.push(3)?;
     assert_eq!(rt; dims.copy()?.as_slice(), [2, 3].as_slice());
-    let nil = Symbol {
-        package: Text::of(rt.alloc(), "COMMON-LISP")?,
-        name: Text::of(rt.alloc(), "NIL")?,
-    };
+    let nil = Symbol::nil(rt.alloc())?;
+    assert_eq!(rt; nil.package.as_str(), "COMMON-LISP");
+    assert_eq!(rt; nil.name.as_str(), "NIL");
     assert!(rt; nil.is_nil() && nil.is(&nil.copy()?));
     Ok(())
 }

@@ -8,7 +8,7 @@ use Rattle.ls_reader.specs.declared.token.Bracket.{Bracket}
 use Rattle.ls_reader.specs.declared.token.Bracket.TheVariants as bracket
 use Rattle.ls_reader.specs.declared.token.Mark.{Mark}
 use Rattle.ls_reader.specs.declared.token.Mark.TheVariants as mark
-use Rattle.ls_reader.specs.Tokens.{symbol_named, nil_name}
+use Rattle.ls_object.specs.Symbols.{nil_symbol}
 
 -- a form that begins at a place and ends before a byte
 abbrev pub datum : Place → ℕ → Form → Datum
@@ -16,7 +16,7 @@ datum from end form = record { span = record { start = from.byte; end = end; lin
 
 -- what brackets with these data in them are (2.4.1): a list, or NIL where there are none
 abbrev pub listed : Bracket → List Datum → Form
-listed bracket.Round [] = roll-Form (Form-F.Symbol (symbol_named nil_name))
+listed bracket.Round [] = roll-Form (Form-F.Symbol nil_symbol)
 listed bracket.Round (d ∷ ds) = roll-Form (Form-F.List (d ∷ ds))
 
 -- what a mark and its datum are (2.4.3)

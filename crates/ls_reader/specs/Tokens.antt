@@ -1,7 +1,7 @@
 -- What a token is (2.3).
-use Rattle.std.specs.Prelude.{ℕ, if◌then◌else◌, List, map, codes}
+use Rattle.std.specs.Prelude.{ℕ, if◌then◌else◌, List, map}
 use Rattle.std.specs.Char.{to_ascii_uppercase}
-use Rattle.ls_object.specs.declared.symbol.Symbol.{Symbol}
+use Rattle.ls_object.specs.Symbols.{common_lisp_symbol}
 use Rattle.ls_reader.specs.declared.datum.Form.{Form, roll-Form}
 use Rattle.ls_reader.specs.declared.datum.Form.TheOpen.{Form-F}
 use Rattle.ls_reader.specs.declared.fault.FaultKind.TheVariants.{NotBuilt}
@@ -9,21 +9,9 @@ use Rattle.ls_reader.specs.declared.token.Token.{Token}
 use Rattle.ls_reader.specs.declared.token.Token.TheVariants as token
 use Rattle.ls_reader.specs.Numbers.{is_integer, is_float, is_negative, magnitude, literal_of}
 
--- the name of the package of all symbols
-abbrev pub common_lisp : List ℕ
-common_lisp = codes "COMMON-LISP"
-
--- the name of the symbol NIL
-abbrev pub nil_name : List ℕ
-nil_name = codes "NIL"
-
--- the symbol of that name in the package COMMON-LISP
-abbrev pub symbol_named : List ℕ → Symbol
-symbol_named name = record { «package» = common_lisp; name = name }
-
 -- the symbol that a token writes (2.3.4): its letters go to upper case
 abbrev pub symbol_of : List ℕ → Form
-symbol_of text = roll-Form (Form-F.Symbol (symbol_named (map to_ascii_uppercase text)))
+symbol_of text = roll-Form (Form-F.Symbol (common_lisp_symbol (map to_ascii_uppercase text)))
 
 -- the integer that a token writes (2.3.1.1)
 abbrev pub number_of : List ℕ → Form

@@ -6,10 +6,10 @@ ghost use Rattle.ls_reader.specs.Machine as spec;
 use crate::datum::{Datum, Form, Span};
 use crate::fault::{Failure, FaultKind};
 use crate::frame::Frame;
-use crate::lexeme::nil;
 use crate::place::Place;
 use crate::stack::Stack;
 use crate::token::{Bracket, Mark, Token};
+use ls_object::Symbol;
 use sqlite_items::{Boxed, Items};
 use std::alloc::{AllocError, Global};
 
@@ -44,7 +44,7 @@ fn listed(alloc: Global, kind: Bracket, items: Items<Datum>) -> Result<Form, All
     match kind {
         Bracket::Round => {
             if items.is_empty() {
-                return Ok(Form::Symbol(nil(alloc)?));
+                return Ok(Form::Symbol(Symbol::nil(alloc)?));
             }
             Ok(Form::List(items))
         }

@@ -1,7 +1,7 @@
 ghost use Rattle.std.specs.Prelude.{◌≡◌, ◌≤◌, ◌∷◌, map, length, IfOk};
 ghost use Rattle.std.specs.Char.{to_ascii_uppercase};
 ghost use Rattle.ls_reader.specs.Characters as spec;
-ghost use Rattle.ls_reader.specs.Tokens.{nil_name, symbol_named, token_of};
+ghost use Rattle.ls_reader.specs.Tokens.{token_of};
 ghost use Rattle.ls_reader.specs.Lexing.{Gives, token_at, lexeme};
 
 use crate::datum::Form;
@@ -44,24 +44,6 @@ fn upper_case(alloc: Global, text: &[char]) -> Result<Text, AllocError>
     Ok(name)
 }
 
-/// The symbol NIL, which the empty list is.
-pub(crate) fn nil(alloc: Global) -> Result<Symbol, AllocError>
-    ensures { IfOk result (λ s. s ≡ symbol_named nil_name) }
-{
-    let name = Text::of_ascii(alloc, "NIL")?;
-    symbol_named(alloc, name)
-}
-
-/// The symbol of that name in the package COMMON-LISP.
-fn symbol_named(alloc: Global, name: Text) -> Result<Symbol, AllocError>
-    ensures { IfOk result (λ s. s ≡ symbol_named name) }
-{
-    Ok(Symbol {
-        package: Text::of_ascii(alloc, "COMMON-LISP")?,
-        name,
-    })
-}
-
 /// What a token is (2.3).
 #[tactic(auto, unfolding(crate::specs::Tokens::token_of))]
 fn token_of(alloc: Global, text: &[char]) -> Result<Token, AllocError>
@@ -74,7 +56,7 @@ fn token_of(alloc: Global, text: &[char]) -> Result<Token, AllocError>
         return Ok(Token::Bad(FaultKind::NotBuilt));
     }
     let name = upper_case(alloc, text)?;
-    Ok(Token::Atom(Form::Symbol(symbol_named(alloc, name)?)))
+    Ok(Token::Atom(Form::Symbol(Symbol::of_common_lisp(alloc, name)?)))
 }
 
 /// The constituents that come first as a token, and what follows.

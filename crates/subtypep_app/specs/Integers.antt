@@ -1,7 +1,7 @@
 -- Specifiers of integers, and the integers at which membership in them may change.
-use Rattle.std.specs.Prelude.{◌≡◌, ℤ, pos, ◌+ℤ◌, ◌≤◌, ◌<◌, ◌^◌, ◌<ℤ◌, List, [], ◌∷◌, ◌++◌, codes, unsigned_abs}
+use Rattle.std.specs.Prelude.{◌≡◌, ℤ, pos, ◌+ℤ◌, ◌≤◌, ◌<◌, ◌^◌, ◌<ℤ◌, List, [], ◌∷◌, ◌++◌, unsigned_abs}
 use Rattle.ls_object.specs.declared.rat.Rat.{Rat}
-use Rattle.ls_object.specs.declared.symbol.Symbol.{Symbol}
+use Rattle.ls_object.specs.Symbols.{nil_symbol}
 use Rattle.ls_object.specs.Universe.{LispObject, node, number, symbol, Structures, IsObject}
 use Rattle.ls_object.specs.Writing.{IsWritable}
 use Rattle.ls_spec.specs.declared.spec.Point.{Point}
@@ -95,8 +95,5 @@ pub record IsSeparating (a b : Specifier) (o : LispObject) : Type 0 where
   pub separates : Separates a b o
 
 -- the symbol NIL, which stands for all objects that are no integers
-abbrev pub nil_name : Symbol
-nil_name = record { «package» = codes "COMMON-LISP"; name = codes "NIL" }
-
 abbrev pub nil : LispObject
-nil = node [] (symbol nil_name)
+nil = node [] (symbol nil_symbol)

@@ -12,7 +12,7 @@ ghost use Rattle.subtypep_app.specs.Integers.{integer, IsCut, IsOfIntegers, Pass
 
 use crate::answer::Answer;
 use crate::integers::{BOTTOM, push_cuts};
-use ls_object::{Items, Object, Rat, Shape, Symbol, Text};
+use ls_object::{Items, Object, Rat, Shape, Symbol};
 use ls_spec::{Spec, belongs};
 use std::alloc::{AllocError, Global};
 
@@ -36,10 +36,7 @@ fn nil_object(alloc: Global) -> Result<Object, AllocError>
 {
     Ok(Object {
         marks: Items::new(alloc),
-        shape: Shape::Sym(Symbol {
-            package: Text::of_ascii(alloc, "COMMON-LISP")?,
-            name: Text::of_ascii(alloc, "NIL")?,
-        }),
+        shape: Shape::Sym(Symbol::nil(alloc)?),
     })
 }
 
