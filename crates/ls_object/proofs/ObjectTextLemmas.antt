@@ -1,10 +1,9 @@
 -- Worked examples of the printed texts.
 use Rattle.std.proofs.Common.{◌≡◌, ℕ, pos, List, [], ◌∷◌, true, false, codes, refl}
-use Rattle.std.specs.Fmt.{digits}
 use Rattle.ls_object.specs.declared.symbol.Symbol.{Symbol}
 use Rattle.ls_object.specs.declared.kind.Kind.TheVariants.{CompiledFunction}
 use Rattle.ls_object.specs.Universe.{LispObject, node, number, character, symbol, pair, array, structure, opaque}
-use Rattle.ls_object.specs.ObjectText.{object_text}
+use Rattle.ls_object.specs.ObjectText.{object_text, natural_text}
 
 -- the symbol of this package and name
 abbrev name_of : List ℕ → List ℕ → Symbol
@@ -52,17 +51,17 @@ clef = refl
 
 -- a list that ends in NIL
 proper_list : Prints (cons (integer 1) (cons (cons (integer 2) nil) nil)) (codes "(1 (2))")
-unfolding digits
+unfolding natural_text
 proper_list = refl
 
 -- a list that ends in a number
 dotted_list : Prints (cons (integer 1) (cons nil (integer 3))) (codes "(1 NIL . 3)")
-unfolding digits
+unfolding natural_text
 dotted_list = refl
 
 -- a simple array
 byte_matrix : Prints (node [] (array 4 true (2 ∷ 10 ∷ []))) (codes "#<ARRAY (UNSIGNED-BYTE 8) (2 10) SIMPLE>")
-unfolding digits
+unfolding natural_text
 byte_matrix = refl
 
 -- an array of rank 0 that isn't simple
@@ -71,7 +70,7 @@ general_array = refl
 
 -- an array of one of the kinds
 float_vector : Prints (node [] (array 17 true (3 ∷ []))) (codes "#<ARRAY DOUBLE-FLOAT (3) SIMPLE>")
-unfolding digits
+unfolding natural_text
 float_vector = refl
 
 -- a structure

@@ -1,10 +1,24 @@
 -- Structure inclusion (DEFSTRUCT, the option :INCLUDE).
-use Rattle.std.specs.Prelude.{Some}
+use Rattle.std.specs.Prelude.{[], ◌∷◌, ◌++◌, Option, Some}
 use Rattle.std.specs.List.{Contains}
+use Rattle.std.specs.Option.{ForSome}
 use Rattle.ls_object.specs.declared.symbol.Symbol.{Symbol}
-use Rattle.ls_object.specs.Universe.{Structures}
+use Rattle.ls_object.specs.Universe.{Structures, IsStructureOf}
 
 -- the name x is y, or x includes a name that is under y
 pub data Under (structures : Structures) : Symbol → Symbol → Type 0 where
   itself : {x : Symbol} → Under structures x x
   through : {x z y : Symbol} → Contains structures (x, Some z) → Under structures z y → Under structures x y
+
+-- the structure type may stand behind these: its name is new, and the name that it includes, if it does, is one of theirs
+abbrev pub MayFollow : Structures → Symbol × Option Symbol → Type 0
+MayFollow before (name, include) = (IsStructureOf before name → ⊥) × ForSome include (IsStructureOf before)
+
+-- each of the structure types may stand behind those before it
+abbrev pub AreIncludedBefore : Structures → Structures → Type 0
+AreIncludedBefore before [] = Unit {0}
+AreIncludedBefore before (pair ∷ more) = MayFollow before pair × AreIncludedBefore (before ++ pair ∷ []) more
+
+-- the structure types have different names, and each included one stands before
+abbrev pub IsInclusionOrder : Structures → Type 0
+IsInclusionOrder structures = AreIncludedBefore [] structures

@@ -4,5 +4,7 @@ pub mod Inclusion
 pub mod Table
 pub mod Meaning
 pub mod Ratio
+pub mod Integers
 pub mod ObjectText
 pub mod Writing
+pub mod Stored

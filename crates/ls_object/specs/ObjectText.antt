@@ -1,8 +1,8 @@
 -- The printed text of a plain object, as the codes of its characters (22.1.3).
 -- What the reader couldn't read back stands between #< and >.
-use Rattle.std.specs.Prelude.{ℕ, zero, suc, ℤ, ◌+◌, ◌/◌, ◌%◌, ◌^◌, List, [], ◌∷◌, ◌++◌, Bool, false, not, ◌&&◌, ◌||◌, ◌==◌, Option, Some, None, slice_get, codes, decimal, if◌then◌else◌, nat_le, nat_lt, nat_eq}
+use Rattle.std.specs.Prelude.{ℕ, zero, suc, ℤ, pos, negsuc, ◌+◌, ◌/◌, ◌%◌, ◌^◌, List, [], ◌∷◌, ◌++◌, Bool, false, not, ◌&&◌, ◌||◌, ◌==◌, Option, Some, None, slice_get, codes, map, if◌then◌else◌, nat_le, nat_lt, nat_eq}
 use Rattle.std.specs.List.{list_all, list_any, flat_map}
-use Rattle.std.specs.Fmt.{signed_decimal}
+use Rattle.std.specs.Int.Digits.{digits_of}
 use Rattle.std.specs.Cmp.Lexicographic.{pointwise}
 use Rattle.ls_object.specs.declared.symbol.Symbol.{Symbol}
 use Rattle.ls_object.specs.declared.kind.Kind.{Kind}
@@ -12,13 +12,22 @@ use Rattle.ls_object.specs.declared.table.Entry.TheVariants.{Nil, Bit, UnsignedB
 use Rattle.ls_object.specs.declared.table.TheConstants.{UPGRADING_TABLE}
 use Rattle.ls_object.specs.Universe.{LispObject, node, LispShape, number, character, symbol, pair, array, structure, opaque}
 
+-- a natural number in decimal, the highest digit first; a number has as many digits as it takes
+unfoldable pub natural_text : ℕ → List ℕ
+natural_text n = if n == 0 then codes "0" else map (λ d. 48 + d) (digits_of 10 n)
+
+-- an integer in decimal
+abbrev pub integer_text : ℤ → List ℕ
+integer_text (pos n) = natural_text n
+integer_text (negsuc n) = codes "-" ++ natural_text (suc n)
+
 -- a numerator and a denominator in decimal
 abbrev pub ratio_text : ℤ → ℕ → List ℕ
-ratio_text n d = signed_decimal n ++ codes "/" ++ decimal d
+ratio_text n d = integer_text n ++ codes "/" ++ natural_text d
 
 -- the rational n/d in decimal, an integer without a denominator (22.1.3.1)
 abbrev pub number_text : ℤ → ℕ → List ℕ
-number_text n d = if d == 1 then signed_decimal n else ratio_text n d
+number_text n d = if d == 1 then integer_text n else ratio_text n d
 
 -- a digit below 16, with capital letters
 abbrev pub hexadecimal_digit : ℕ → ℕ
@@ -125,8 +134,8 @@ kind_text Other = codes "OTHER"
 abbrev pub entry_text : Entry → List ℕ
 entry_text Nil = codes "NIL"
 entry_text Bit = codes "BIT"
-entry_text (UnsignedByte bits) = codes "(UNSIGNED-BYTE " ++ decimal bits ++ codes ")"
-entry_text (SignedByte bits) = codes "(SIGNED-BYTE " ++ decimal bits ++ codes ")"
+entry_text (UnsignedByte bits) = codes "(UNSIGNED-BYTE " ++ natural_text bits ++ codes ")"
+entry_text (SignedByte bits) = codes "(SIGNED-BYTE " ++ natural_text bits ++ codes ")"
 entry_text BaseChar = codes "BASE-CHAR"
 entry_text Character = codes "CHARACTER"
 entry_text (OfKind k) = kind_text k
@@ -144,7 +153,7 @@ code_text code = text_of_entry (slice_get UPGRADING_TABLE code)
 -- the numbers with one space between
 abbrev pub spaced : List ℕ → List ℕ
 spaced [] = []
-spaced (n ∷ ns) = decimal n ++ flat_map (λ m. codes " " ++ decimal m) ns
+spaced (n ∷ ns) = natural_text n ++ flat_map (λ m. codes " " ++ natural_text m) ns
 
 -- the dimensions of an array, () for rank 0
 abbrev pub dimensions_text : List ℕ → List ℕ

@@ -1,16 +1,20 @@
--- What writing an object's text promises.
-use Rattle.std.specs.Prelude.{◌≡◌, ℕ, List, ◌++◌}
-use Rattle.ls_object.specs.Universe.{LispObject, node, number, symbol, IsPlain}
+-- What writing an object's text promises, and steps of it.
+use Rattle.std.specs.Prelude.{◌≡◌, ℕ, List, ◌++◌, codes}
+use Rattle.ls_object.specs.ObjectText.{natural_text}
+use Rattle.ls_object.specs.Universe.{LispObject, node, LispShape, pair}
 
--- the shape is a number or a symbol
-abbrev pub IsNumberOrSymbol : LispObject → Type 0
-IsNumberOrSymbol (node marks (number n d)) = Unit {0}
-IsNumberOrSymbol (node marks (symbol s)) = Unit {0}
-IsNumberOrSymbol _ = ⊥
+-- the shape is no cons
+abbrev pub IsAtomShape : LispShape → Type 0
+IsAtomShape (pair car cdr) = ⊥
+IsAtomShape _ = Unit {0}
 
--- an object whose text can be written: a plain number or symbol
-abbrev pub IsWritable : LispObject → Type 0
-IsWritable o = IsPlain o × IsNumberOrSymbol o
+-- the object is no cons
+abbrev pub IsAtom : LispObject → Type 0
+IsAtom (node marks shape) = IsAtomShape shape
+
+-- a number with a space before it
+abbrev pub after_space : ℕ → List ℕ
+after_space n = codes " " ++ natural_text n
 
 -- the new text is the old one with a front part of the added text behind it: what a failed write leaves
 pub record AddsFrontOf (added old new : List ℕ) : Type 0 where

@@ -2,10 +2,15 @@
 //! shape. Each stands for an object of the universe without bound that `specs/Universe.antt` defines.
 #![tactic(auto)]
 
+mod between;
+mod copy;
 mod dims;
 mod kind;
+mod laws;
 mod object;
+mod parents;
 mod rat;
+mod stored;
 mod symbol;
 mod table;
 mod text;
@@ -13,7 +18,9 @@ mod write;
 
 pub use dims::Dims;
 pub use kind::Kind;
+pub use laws::one_text_one_object;
 pub use object::{Object, Shape};
+pub use parents::Parents;
 pub use rat::{DENOMINATOR_LIMIT, NUMERATOR_LIMIT, Rat};
 pub use sqlite_items::{Boxed, Items};
 pub use symbol::Symbol;

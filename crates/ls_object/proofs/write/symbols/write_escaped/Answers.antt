@@ -7,7 +7,7 @@ use Rattle.std.proofs.lemmas.Str.{chars_past_char, chars-nil, IsUtf8-past_char}
 use Rattle.ls_object.specs.ObjectText.{escaped}
 use Rattle.ls_object.specs.Writing.{AddsFrontOf}
 use Rattle.ls_object.proofs.WritingLemmas.{adds_first, adds_after, on_err}
-use Rattle.ls_object.proofs.write.write_escaped.Goals as goal
+use Rattle.ls_object.proofs.write.symbols.write_escaped.Goals as goal
 
 -- a failed write of one character is a failed write of the whole
 adds_char : (old out new seen left whole : List ℕ) (c : ℕ) → out ≡ old ++ flat_map escaped seen → whole ≡ seen ++ c ∷ left → AddsFrontOf (escaped c) out new → AddsFrontOf (flat_map escaped whole) old new

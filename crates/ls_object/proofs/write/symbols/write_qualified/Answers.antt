@@ -1,7 +1,7 @@
 use Rattle.std.proofs.Common.{◌++◌, codes, ap, ◌∙◌, append_assoc}
 use Rattle.ls_object.specs.ObjectText.{name_text}
 use Rattle.ls_object.proofs.WritingLemmas.{adds_first, on_err, on_err_after}
-use Rattle.ls_object.proofs.write.write_qualified.Goals as goal
+use Rattle.ls_object.proofs.write.symbols.write_qualified.Goals as goal
 
 pub returns-in_err-write_name-clause-err : goal.returns-in_err-write_name-clause-err
 returns-in_err-write_name-clause-err c =

@@ -2,7 +2,7 @@ use Rattle.std.proofs.Common.{◌≡◌, ◌++◌}
 use Rattle.std.specs.List.{flat_map}
 use Rattle.std.specs.Str.{chars, IsUtf8}
 use Rattle.ls_object.specs.ObjectText.{escaped}
-use Rattle.ls_object.proofs.write.write_escaped.Given as goal
+use Rattle.ls_object.proofs.write.symbols.write_escaped.Given as goal
 
 abbrev pub invariant-loop-c : goal.invariant-loop-c
 invariant-loop-c l = record {
