@@ -1,117 +1,30 @@
--- What a text says is one list of forms, and what was answered is that.
-use Rattle.std.proofs.Common.{◌≡◌, ℕ, ◌+◌, ◌<◌, ◌≤◌, inl, inr, true, false, get_or, add-one, List, [], ◌∷◌, ◌++◌, length, take, drop, ap, Result, Ok, Err, refl, sym, subst, ◌∙◌, arith, take_all}
-use Rattle.std.specs.Prelude.{IfOk, IfErr}
-use Rattle.std.specs.List.{AllByRecursion}
-use Rattle.std.specs.Str.{chars, IsAscii}
-use Rattle.std.proofs.lemmas.Bool.{cond_both}
-use Rattle.std.proofs.lemmas.List.{drop_more, take-append-drop}
-use Rattle.std.proofs.lemmas.Bool.Decides.{nat_tests}
-use Rattle.std.proofs.lemmas.Str.{chars-IsAscii, IsUtf8-from_ascii, encodes-chars, encodes-IsAscii}
+-- What a text says is one thing, and what was answered is that.
+use Rattle.std.proofs.Common.{◌≡◌, ℕ, ◌≤◌, inl, inr, List, [], ◌∷◌, length, Option, Some, None, Result, Ok, Err, refl, sym, ap, subst, ◌∙◌, arith}
+use Rattle.std.specs.Prelude.{IfOk, IfErr, IfSome}
+use Rattle.std.specs.Str.{chars, IsUtf8}
+use lib.Utf8.{encodes}
+use Rattle.std.proofs.lemmas.Str.{encodes-chars, length-le-encodes}
 use Rattle.ls_reader.specs.declared.place.Place.{Place}
 use Rattle.ls_reader.specs.declared.datum.Datum.{Datum}
+use Rattle.ls_reader.specs.declared.datum.Span.{Span}
 use Rattle.ls_reader.specs.declared.fault.FaultKind.{FaultKind}
-use Rattle.ls_reader.specs.declared.fault.FaultKind.TheVariants.{StrayClose, Unclosed, NotBuilt}
 use Rattle.ls_reader.specs.declared.fault.Failure.{Failure}
 use Rattle.ls_reader.specs.declared.fault.Failure.TheVariants as failure
+use Rattle.ls_reader.specs.declared.fault.ReadError.{ReadError}
 use Rattle.ls_reader.specs.declared.fault.ReadError.TheVariants as errors
-use Rattle.ls_reader.specs.declared.token.Token.{Token}
-use Rattle.ls_reader.specs.declared.token.Token.TheVariants as token
-use Rattle.ls_reader.specs.declared.token.Bracket.TheVariants as bracket
-use Rattle.ls_reader.specs.declared.token.Mark.TheVariants as mark
-use Rattle.ls_reader.specs.Characters.{is_blank, is_constituent, is_accepted, run_len}
-use Rattle.ls_reader.specs.Lexemes.{IsLexeme, Lexeme, Lexed}
-use Rattle.ls_reader.specs.Forms.{FormsIn, Forms}
-use Rattle.ls_reader.specs.Faults.{AreAccepted, Fault}
-use Rattle.ls_reader.specs.Answers.{error_of, FailsIn, FailsAt, FailsBefore, IsFaultOf, HasNoForms, IsRefusal}
-use Rattle.ls_reader.proofs.AsciiLemmas.{IsAscii-below}
+use Rattle.ls_reader.specs.Places.{span_at}
+use Rattle.ls_reader.specs.Forms.{Forms, FormsIn}
+use Rattle.ls_reader.specs.Faults.{Fault}
+use Rattle.ls_reader.specs.Answers.{fault_of, fault_of_failure, FailsIn, FailsAt, FaultAt, IsFaultOf, ReadsAs, RefusesAs}
 use Rattle.ls_reader.proofs.UniqueLaw.{outcome, forms_outcome, fault_outcome}
 
--- ---- accepted characters
+-- ---- characters
 
-accepted_below : (c : ℕ) → is_accepted c ≡ true → c < 128
-accepted_below c h = grind (arith, nat_tests)
-
-below_all : (cs : List ℕ) → AreAccepted cs → AllByRecursion (λ c. c < 128) cs
-below_all [] h = tt
-below_all (c ∷ cs) h = (accepted_below c h.0, below_all cs h.1)
-
--- accepted characters are ASCII
-pub AreAccepted-IsAscii : (cs : List ℕ) → AreAccepted cs → IsAscii cs
-AreAccepted-IsAscii cs h = IsAscii-below cs (below_all cs h)
-
-accepted_append : (xs ys : List ℕ) → AreAccepted xs → AreAccepted ys → AreAccepted (xs ++ ys)
-accepted_append [] ys h k = k
-accepted_append (x ∷ xs) ys h k = (h.0, accepted_append xs ys h.1 k)
-
-constituents_accepted : (cs : List ℕ) → AllByRecursion (λ c. is_constituent c ≡ true) cs → AreAccepted cs
-constituents_accepted [] h = tt
-constituents_accepted (c ∷ cs) h = (rw h.0 refl, constituents_accepted cs h.1)
-
-blank_accepted : (c : ℕ) → is_blank c ≡ true → is_accepted c ≡ true
-blank_accepted c h = grind (arith, nat_tests)
-
--- a lexeme is accepted characters
-lexeme_accepted : (t : Token) (text more : List ℕ) → IsLexeme t text more → AreAccepted text
-lexeme_accepted token.Gap text more h = subst AreAccepted (sym h.2) (blank_accepted h.0 h.1, tt)
-lexeme_accepted (token.Open bracket.Round) text more h = subst AreAccepted (sym h) (refl, tt)
-lexeme_accepted token.Close text more h = subst AreAccepted (sym h) (refl, tt)
-lexeme_accepted (token.Mark mark.Quote) text more h = subst AreAccepted (sym h) (refl, tt)
-lexeme_accepted (token.Atom form) text more h = constituents_accepted text h.1.0
-lexeme_accepted (token.Bad kind) text more h = constituents_accepted text h.1.0
-
-lexed_accepted : (xs : List Lexeme) (cs : List ℕ) → Lexed cs xs [] → AreAccepted cs
-lexed_accepted [] cs l = subst AreAccepted (sym l) tt
-lexed_accepted (x ∷ xs) cs l = subst AreAccepted (sym l.2) (accepted_append x.text l.0 (lexeme_accepted x.token x.text l.0 l.1) (lexed_accepted xs l.0 l.3))
-
--- bytes that are forms are accepted
-forms_accepted : (bytes : List ℕ) (fs : List Datum) → Forms bytes fs → AreAccepted bytes
-forms_accepted bytes fs f =
-    let accepted = lexed_accepted f.1.lexemes (chars bytes) f.1.lexed in
-    let same : chars bytes ≡ bytes = sym (encodes-IsAscii (chars bytes) (AreAccepted-IsAscii (chars bytes) accepted)) ∙ encodes-chars bytes f.0 in
-    subst AreAccepted same accepted
-
--- as many accepted bytes as there are bytes are all of them
-all_accepted : (bytes : List ℕ) → length bytes ≤ run_len is_accepted bytes → AreAccepted bytes
-all_accepted [] h = tt
-all_accepted (b ∷ bs) h =
-    cond_both (is_accepted b) (run_len is_accepted bs + 1) 0 (λ n. length (b ∷ bs) ≤ n → AreAccepted (b ∷ bs))
-    (λ e le. (e, all_accepted bs (omega (arith, le))))
-    (λ e le. absurd (omega (arith, le))) h
-
--- accepted bytes are all counted
-pub accepted_run : (bytes : List ℕ) → AreAccepted bytes → run_len is_accepted bytes ≡ length bytes
-accepted_run [] h = refl
-accepted_run (b ∷ bs) h = rw (h.0, accepted_run bs h.1) (omega arith)
-
--- an accepted text does not have a character that is not accepted
-accepted_stops : (text : List ℕ) (c : ℕ) (more : List ℕ) → AreAccepted (text ++ c ∷ more) → is_accepted c ≡ false → ⊥
-accepted_stops [] c more h stops = let both : true ≡ false = sym h.0 ∙ stops in cc
-accepted_stops (x ∷ xs) c more h stops = accepted_stops xs c more h.1 stops
-
--- the run of accepted characters that comes first is accepted
-run_accepted : (cs : List ℕ) → AreAccepted (take (run_len is_accepted cs) cs)
-run_accepted [] = tt
-run_accepted (c ∷ cs) =
-    cond_both (is_accepted c) (run_len is_accepted cs + 1) 0 (λ n. AreAccepted (take n (c ∷ cs))) (λ e. rw add-one (e, run_accepted cs)) (λ e. tt)
-
--- and what follows it is not
-run_stops : (cs : List ℕ) (d : ℕ) → run_len is_accepted cs < length cs → is_accepted (get_or cs (run_len is_accepted cs) d) ≡ false
-run_stops [] d = λ lt. absurd (omega (arith, lt))
-run_stops (c ∷ cs) d =
-    cond_both (is_accepted c) (run_len is_accepted cs + 1) 0 (λ n. n < length (c ∷ cs) → is_accepted (get_or (c ∷ cs) n d) ≡ false)
-    (λ e lt. rw add-one (run_stops cs d (omega (arith, lt)))) (λ e lt. e)
-
--- ---- a text that is accepted as a whole
-
--- the accepted front of a text is the whole of it, where it is as long
-pub whole_front : (bytes text : List ℕ) (n : ℕ) → n ≡ run_len is_accepted bytes → text ≡ take n bytes → length bytes ≤ n → AreAccepted bytes × (text ≡ bytes)
-whole_front bytes text n e f le = (all_accepted bytes (subst (λ m. length bytes ≤ m) e le), f ∙ take_all n bytes le)
-
--- forms of accepted characters are the forms of the bytes
-pub forms_of : (bytes : List ℕ) (r : Result (List Datum) Failure) → AreAccepted bytes → IfOk r (FormsIn bytes) → IfOk r (Forms bytes)
-forms_of bytes (Ok fs) h f =
-    let ascii = AreAccepted-IsAscii bytes h in (IsUtf8-from_ascii bytes ascii, subst (λ (cs : List ℕ). FormsIn cs fs) (sym (chars-IsAscii bytes ascii)) f)
-forms_of bytes (Err e) h f = tt
+-- a text has no more characters than bytes
+pub chars_short : (bytes cs : List ℕ) → IsUtf8 bytes → cs ≡ chars bytes → length cs ≤ length bytes
+chars_short bytes cs utf8 e =
+    let whole : length (encodes (chars bytes)) ≡ length bytes = ap length (encodes-chars bytes utf8) in
+    omega (arith, ap length e, whole, length-le-encodes (chars bytes))
 
 -- ---- one answer
 
@@ -121,58 +34,62 @@ Outcome = Result (List Datum) (FaultKind × Place)
 same_ok : (r : Outcome) (fs gs : List Datum) → r ≡ Ok fs → r ≡ Ok gs → fs ≡ gs
 same_ok r fs gs a b = cc
 
+same_err : (r : Outcome) (k l : FaultKind) (p q : Place) → r ≡ Err (k, p) → r ≡ Err (l, q) → (k ≡ l) × (p ≡ q)
+same_err r k l p q a b =
+    let e : (k, p) ≡ (l, q) = cc in (ap (λ (x : FaultKind × Place). x.0) e, ap (λ (x : FaultKind × Place). x.1) e)
+
 not_both : (r : Outcome) (fs : List Datum) (x : FaultKind × Place) → r ≡ Ok fs → r ≡ Err x → ⊥
 not_both r fs x a b = cc
 
--- bytes are at most one list of forms
+-- a text is at most one list of forms
 pub forms_same : (bytes : List ℕ) (fs gs : List Datum) → Forms bytes fs → Forms bytes gs → fs ≡ gs
 forms_same bytes fs gs a b = same_ok (outcome (chars bytes)) fs gs (forms_outcome (chars bytes) fs a.1) (forms_outcome (chars bytes) gs b.1)
 
--- bytes with a fault are no forms
-fault_apart : (bytes : List ℕ) (k : FaultKind) (at : Place) → Fault bytes k at → HasNoForms bytes
-fault_apart bytes k at (inl h) fs f =
-    let same : chars bytes ≡ bytes = chars-IsAscii bytes (AreAccepted-IsAscii bytes h.0) in
-    not_both (outcome bytes) fs (k, at) (forms_outcome bytes fs (subst (λ (cs : List ℕ). FormsIn cs fs) same f.1)) (fault_outcome bytes k at h.1)
-fault_apart bytes k at (inr h) fs f =
-    accepted_stops h.text h.next h.more (subst AreAccepted h.are (forms_accepted bytes fs f)) h.stops
+-- a text has at most one fault
+pub fault_same : (bytes : List ℕ) (k l : FaultKind) (p q : Place) → Fault bytes k p → Fault bytes l q → (k ≡ l) × (p ≡ q)
+fault_same bytes k l p q (inl a) (inl b) = (a.kind ∙ sym b.kind, a.stands ∙ sym b.stands)
+fault_same bytes k l p q (inl a) (inr b) = absurd (a.not_utf8 b.0)
+fault_same bytes k l p q (inr a) (inl b) = absurd (b.not_utf8 a.0)
+fault_same bytes k l p q (inr a) (inr b) = same_err (outcome (chars bytes)) k l p q (fault_outcome (chars bytes) k p a.1) (fault_outcome (chars bytes) l q b.1)
 
--- the error of a failure that is a fault is not that of forms
-pub err_reads : (bytes : List ℕ) (e : Failure) → FailsAt bytes e → (fs : List Datum) → Forms bytes fs → error_of e ≡ errors.Memory
-err_reads bytes failure.Memory fails fs f = refl
-err_reads bytes (failure.Fault k at) fails fs f = absurd (fault_apart bytes k at fails fs f)
+-- forms have no fault
+pub forms_apart : (bytes : List ℕ) (fs : List Datum) (k : FaultKind) (p : Place) → Forms bytes fs → Fault bytes k p → ⊥
+forms_apart bytes fs k p a (inl b) = b.not_utf8 a.0
+forms_apart bytes fs k p a (inr b) = not_both (outcome (chars bytes)) fs (k, p) (forms_outcome (chars bytes) fs a.1) (fault_outcome (chars bytes) k p b.1)
 
-pub err_refused : (bytes : List ℕ) (e : Failure) → FailsAt bytes e → IsRefusal bytes (error_of e)
-err_refused bytes failure.Memory fails = tt
-err_refused bytes (failure.Fault StrayClose at) fails = fault_apart bytes StrayClose at fails
-err_refused bytes (failure.Fault Unclosed at) fails = fault_apart bytes Unclosed at fails
-err_refused bytes (failure.Fault NotBuilt at) fails = fault_apart bytes NotBuilt at fails
+-- ---- what was answered
 
-pub err_fault : (bytes : List ℕ) (e : Failure) → FailsAt bytes e → IsFaultOf bytes (error_of e)
-err_fault bytes failure.Memory fails = tt
-err_fault bytes (failure.Fault StrayClose at) fails = (at, fails, refl)
-err_fault bytes (failure.Fault Unclosed at) fails = (at, fails, refl)
-err_fault bytes (failure.Fault NotBuilt at) fails = (at, fails, refl)
+fault_at : (bytes : List ℕ) (x : Failure) → FailsAt bytes x → IfSome (fault_of_failure x) (λ fault. FaultAt bytes fault.0 fault.1)
+fault_at bytes failure.Memory h = tt
+fault_at bytes (failure.Fault k place) h = (place, h, refl)
 
--- ---- the fault of a text with a byte that is not accepted
+-- the error of a failure is the fault of the bytes
+pub error_is_fault : (bytes : List ℕ) (x : Failure) (e : ReadError) → FailsAt bytes x → fault_of e ≡ fault_of_failure x → IsFaultOf bytes e
+error_is_fault bytes x e h is = rw is (fault_at bytes x h)
 
--- the failure of bytes from that of the text before the byte
-pub fails_past : (bytes text more : List ℕ) (next : ℕ) (e : Failure) → bytes ≡ text ++ next ∷ more → AreAccepted text → is_accepted next ≡ false → FailsBefore text next e → FailsAt bytes e
-fails_past bytes text more next failure.Memory e a s h = tt
-fails_past bytes text more next (failure.Fault k place) e a s h =
-    inr (record { text = text; next = next; more = more; are = e; accepted = a; stops = s; front = h.0; whole = h.1; fault = h.2 })
+memory_or_fault : (e : ReadError) → ((fault : FaultKind × Span) → fault_of e ≡ Some fault → ⊥) → e ≡ errors.Memory
+memory_or_fault errors.Memory h = refl
+memory_or_fault (errors.NotUtf8 span) h = absurd (h _ refl)
+memory_or_fault (errors.BadToken span) h = absurd (h _ refl)
+memory_or_fault (errors.StrayClose span) h = absurd (h _ refl)
+memory_or_fault (errors.Unclosed span) h = absurd (h _ refl)
+memory_or_fault (errors.BadDot span) h = absurd (h _ refl)
+memory_or_fault (errors.TooDeep span) h = absurd (h _ refl)
+memory_or_fault (errors.ZeroDenominator span) h = absurd (h _ refl)
+memory_or_fault (errors.Label span) h = absurd (h _ refl)
 
--- the failure of bytes that are all accepted
-pub fails_whole : (bytes : List ℕ) (e : Failure) → AreAccepted bytes → FailsIn bytes e → FailsAt bytes e
-fails_whole bytes failure.Memory a h = tt
-fails_whole bytes (failure.Fault k place) a h = inl (a, h)
+-- bytes whose fault was answered are no forms
+pub error_reads : (bytes : List ℕ) (e : ReadError) → IsFaultOf bytes e → (fs : List Datum) → Forms bytes fs → e ≡ errors.Memory
+error_reads bytes e err fs h =
+    memory_or_fault e (λ fault is. let found = subst (λ (o : Option (FaultKind × Span)). IfSome o (λ x. FaultAt bytes x.0 x.1)) is err in forms_apart bytes fs fault.0 found.0 h found.1)
 
-pub fails_whole_err : (bytes : List ℕ) (r : Result (List Datum) Failure) → AreAccepted bytes → IfErr r (FailsIn bytes) → IfErr r (FailsAt bytes)
-fails_whole_err bytes (Ok fs) a h = tt
-fails_whole_err bytes (Err e) a h = fails_whole bytes e a h
+same_fault : (bytes : List ℕ) (k : FaultKind) (p : Place) (o : Option (FaultKind × Span)) → Fault bytes k p → IfSome o (λ x. FaultAt bytes x.0 x.1) → IfSome o (λ x. x ≡ (k, span_at p))
+same_fault bytes k p None h found = tt
+same_fault bytes k p (Some x) h found =
+    let same = fault_same bytes x.0 k found.0 p found.1 h in
+    let spans : x.1 ≡ span_at p = found.2 ∙ ap span_at same.1 in
+    ap (λ (l : FaultKind). (l, x.1)) same.0 ∙ ap (λ (s : Span). (k, s)) spans
 
--- the failure of bytes from that of the accepted bytes before the first that is not
-pub fails_front : (bytes text : List ℕ) (n next : ℕ) (e : Failure) → n ≡ run_len is_accepted bytes → text ≡ take n bytes → n < length bytes → next ≡ get_or bytes n next → FailsBefore text next e → FailsAt bytes e
-fails_front bytes text n next e is t lt at h =
-    let cut : bytes ≡ take n bytes ++ next ∷ drop (n + 1) bytes = sym (take-append-drop n bytes) ∙ ap (λ (cs : List ℕ). take n bytes ++ cs) (drop_more bytes n next lt ∙ ap (λ (c : ℕ). c ∷ drop (n + 1) bytes) (sym at)) in
-    fails_past bytes (take n bytes) (drop (n + 1) bytes) next e cut (rw is (run_accepted bytes))
-    (ap is_accepted at ∙ rw is (run_stops bytes next (subst (λ m. m < length bytes) is lt))) (subst (λ (cs : List ℕ). FailsBefore cs next e) t h)
+-- the fault of the bytes is the one that was answered
+pub error_refuses : (bytes : List ℕ) (e : ReadError) → IsFaultOf bytes e → (k : FaultKind) (p : Place) → Fault bytes k p → IfSome (fault_of e) (λ x. x ≡ (k, span_at p))
+error_refuses bytes e err k p h = same_fault bytes k p (fault_of e) h err

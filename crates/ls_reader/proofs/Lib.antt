@@ -1,7 +1,16 @@
-pub mod AsciiLemmas
+pub mod StackLemmas
 pub mod NumberLemmas
+pub mod CommentLemmas
+pub mod NameLemmas
+pub mod StringLemmas
+pub mod WordLemmas
+pub mod SyntaxLemmas
 pub mod LexemeLemmas
+pub mod TreeLemmas
+pub mod StuckLemmas
 pub mod BuilderLemmas
 pub mod TurnLemmas
+pub mod RunLemmas
+pub mod RefusalLemmas
 pub mod UniqueLaw
 pub mod AnswerLemmas

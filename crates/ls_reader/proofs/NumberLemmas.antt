@@ -1,17 +1,23 @@
--- The literal of an integer, and the value of its digits under a cap.
-use Rattle.std.proofs.Common.{ℕ, ℤ, pos, ◌-ℤ◌, to_z, of_z, ◌≡◌, ◌+◌, ◌-◌, ◌*◌, ◌^◌, ◌<◌, ◌≤◌, Bool, true, false, List, [], ◌∷◌, min, refl, sym, ap, ◌∙◌, arith, nat_le}
+-- The literal of a fraction, and the value of its digits under a cap.
+use Rattle.std.proofs.Common.{ℕ, zero, suc, ℤ, pos, negsuc, ◌-ℤ◌, ◌*ℤ◌, to_z, of_z, ◌≡◌, ◌+◌, ◌-◌, ◌*◌, ◌/◌, ◌^◌, ◌<◌, ◌≤◌, Bool, true, false, List, [], ◌∷◌, min, refl, sym, ap, subst, ◌∙◌, arith, nat_le}
 use Rattle.std.specs.Prelude.{unsigned_abs, neg_ℤ}
-use Rattle.std.proofs.lemmas.Int.{to_z-of_z, to_z_pos, fits_signed_from_abs}
-use mir.Syntax.{w128}
 use Rattle.std.specs.Int.{IsGcd}
-use Rattle.std.proofs.lemmas.Bool.{leb-true, leb-false}
+use Rattle.std.proofs.lemmas.Bool.{leb-true, leb-false, le-leb, and_from, false_from_ne_true, false≢true}
+use Rattle.std.proofs.lemmas.Bool.Decides.{nat_tests}
+use Rattle.std.proofs.lemmas.Int.{to_z-of_z, to_z_pos, fits_signed_from_abs}
+use Rattle.std.proofs.lemmas.Nat.Gcd.{same_from_IsGcd}
+use mir.Syntax.{w128}
 use Rattle.std.proofs.Math.Bridge.{le_prop}
-use Rattle.std.proofs.Math.Nat.{∣_prop, min-eq_left, min-eq_right}
+use Rattle.std.proofs.Math.Nat.{∣_prop, min-eq_left, min-eq_right, mul-div_cancel_left, le-mul_of_pos_right, zero-lt-suc, pos_of_dvd_of_pos}
 use Rattle.std.proofs.Math.Path.{path_j}
-use Rattle.std.proofs.Math.IntN.{+ℤ_idl}
+use Rattle.std.proofs.Math.IntN.{+ℤ_idl, pos-*ℤ-pos, pos-*ℤ-negsuc}
 use Rattle.ls_object.specs.declared.rat.Rat.{Rat}
+use Rattle.ls_object.specs.Ratio.{IsReduced}
+use Rattle.ls_reader.specs.declared.datum.Literal.{Literal}
 use Rattle.ls_reader.specs.declared.datum.Literal.TheVariants as literal
-use Rattle.ls_reader.specs.Numbers.{decimal, signed, abs-signed, literal_when, literal_of}
+use Rattle.ls_reader.specs.CharNames.{is_scalar, scalar}
+use Rattle.ls_reader.specs.Fractions.{signed, abs-signed, divisor, rational, is_narrow, literal_when, literal_of}
+use Rattle.ls_reader.specs.Numbers.{weight, value_on, number, fraction}
 
 -- ---- rationals
 
@@ -19,67 +25,129 @@ use Rattle.ls_reader.specs.Numbers.{decimal, signed, abs-signed, literal_when, l
 abbrev Facts : ℤ → ℕ → Type 0
 Facts z d = (0 < d) × IsGcd (unsigned_abs z) d 1 × (unsigned_abs z < 2 ^ 66) × (d ≤ 2 ^ 61)
 
+-- these facts are propositions
 Facts-prop : (z : ℤ) (d : ℕ) → IsProp (Facts z d)
 Facts-prop z d = hlevel (le_prop, ∣_prop)
 
-abbrev rational : (z : ℤ) (d : ℕ) → Facts z d → Rat
-rational z d f = record { num = z; den = d; positive = f.0; lowest = f.1; num_fits = f.2; den_fits = f.3 }
+-- a rational by its facts
+abbrev with_facts : (z : ℤ) (d : ℕ) → Facts z d → Rat
+with_facts z d f = record { num = z; den = d; positive = f.0; lowest = f.1; num_fits = f.2; den_fits = f.3 }
 
 -- a rational is determined by its numerator and its denominator
 pub same_rat : (a b : Rat) → a.num ≡ b.num → a.den ≡ b.den → a ≡ b
 same_rat a b p q =
-    path_j (λ z _. (d : ℕ) → a.den ≡ d → (f : Facts z d) → a ≡ rational z d f)
-    (λ d e. path_j (λ n _. (f : Facts a.num n) → a ≡ rational a.num n f)
-    (λ f. ap (rational a.num a.den) (Facts-prop a.num a.den (a.positive, a.lowest, a.num_fits, a.den_fits) f)) e)
+    path_j (λ z _. (d : ℕ) → a.den ≡ d → (f : Facts z d) → a ≡ with_facts z d f)
+    (λ d e. path_j (λ n _. (f : Facts a.num n) → a ≡ with_facts a.num n f)
+    (λ f. ap (with_facts a.num a.den) (Facts-prop a.num a.den (a.positive, a.lowest, a.num_fits, a.den_fits) f)) e)
     p b.den q (b.positive, b.lowest, b.num_fits, b.den_fits)
 
-narrow_when : (negative : Bool) (n : ℕ) (r : Rat) → n ≤ 2 ^ 64 → r.num ≡ signed negative n → r.den ≡ 1 → (narrow : Bool) (e : nat_le n (2 ^ 64) ≡ narrow) → literal.Value r ≡ literal_when negative n narrow e
-narrow_when negative n r h p q true e = ap (λ (x : Rat). literal.Value x) (same_rat r _ p q)
-narrow_when negative n r h p q false e = absurd (omega (arith, h, leb-false n (2 ^ 64) e))
+-- ---- the reduced fraction
 
--- an integer within the limits has its value as its literal
-pub literal_narrow : (negative : Bool) (n : ℕ) (r : Rat) → n ≤ 2 ^ 64 → r.num ≡ signed negative n → r.den ≡ 1 → literal.Value r ≡ literal_of negative n
-literal_narrow negative n r h p q = narrow_when negative n r h p q (nat_le n (2 ^ 64)) refl
+-- whether a number is at least zero
+abbrev is_natural : ℤ → Bool
+is_natural (pos n) = true
+is_natural (negsuc n) = false
 
-wide_when : (negative : Bool) (n : ℕ) → 2 ^ 64 < n → (narrow : Bool) (e : nat_le n (2 ^ 64) ≡ narrow) → literal.Wide ≡ literal_when negative n narrow e
-wide_when negative n h true e = absurd (omega (arith, h, leb-true n (2 ^ 64) e))
-wide_when negative n h false e = refl
+-- a number below zero is no natural number
+below_zero : (n k : ℕ) → 0 < k → pos n ≡ neg_ℤ (pos k) → ⊥
+below_zero n zero p e = absurd (omega arith)
+below_zero n (suc k) p e = let both : true ≡ false = ap is_natural e in false≢true (sym both)
 
--- an integer past the limits is wide
-pub literal_wide : (negative : Bool) (n : ℕ) → 2 ^ 64 < n → literal.Wide ≡ literal_of negative n
-literal_wide negative n h = wide_when negative n h (nat_le n (2 ^ 64)) refl
+-- a factor is the quotient by the other one
+quotient : (n g m : ℕ) → 0 < g → n ≡ g * m → n / g ≡ m
+quotient n g m p e = ap (λ (k : ℕ). k / g) e ∙ mul-div_cancel_left m p
 
-capped_literal_when : (negative : Bool) (n : ℕ) (narrow : Bool) → nat_le n (2 ^ 64) ≡ narrow → literal_of negative (min n (2 ^ 64 + 1)) ≡ literal_of negative n
-capped_literal_when negative n true e =
-    let below : n ≤ 2 ^ 64 + 1 = omega (arith, leb-true n (2 ^ 64) e) in ap (literal_of negative) (min-eq_left below)
-capped_literal_when negative n false e =
-    let above : 2 ^ 64 + 1 ≤ n = omega (arith, leb-false n (2 ^ 64) e) in
-    let wide : 2 ^ 64 < min n (2 ^ 64 + 1) = omega (arith, min-eq_right above) in
-    sym (literal_wide negative (min n (2 ^ 64 + 1)) wide) ∙ literal_wide negative n (leb-false n (2 ^ 64) e)
+-- a factor of a numerator is the quotient by the other one
+numerator_is : (negative : Bool) (n g : ℕ) (z : ℤ) → 0 < g → signed negative n ≡ (pos g *ℤ z) → z ≡ signed negative (n / g)
+numerator_is false n g (pos m) p e =
+    let h : n ≡ g * m = ap unsigned_abs (e ∙ pos-*ℤ-pos g m) in ap pos (sym (quotient n g m p h))
+numerator_is false n g (negsuc m) p e =
+    let some : 0 < g * suc m = omega (arith, p, le-mul_of_pos_right g (zero-lt-suc m)) in absurd (below_zero n (g * suc m) some (e ∙ pos-*ℤ-negsuc g m))
+numerator_is true n g (negsuc m) p e =
+    let h : n ≡ g * suc m = sym (abs-signed true n) ∙ ap unsigned_abs (e ∙ pos-*ℤ-negsuc g m) ∙ abs-signed true (g * suc m) in
+    ap (λ (k : ℕ). neg_ℤ (pos k)) (sym (quotient n g (suc m) p h))
+numerator_is true (suc k) g (pos m) p e = absurd (below_zero (g * m) (suc k) (zero-lt-suc k) (sym (pos-*ℤ-pos g m) ∙ sym e))
+numerator_is true zero g (pos zero) p e =
+    let h : 0 ≡ g * 0 = ap unsigned_abs (e ∙ pos-*ℤ-pos g 0) in ap (λ (k : ℕ). neg_ℤ (pos k)) (sym (quotient 0 g 0 p h))
+numerator_is true zero g (pos (suc m)) p e =
+    let h : 0 ≡ g * suc m = ap unsigned_abs (e ∙ pos-*ℤ-pos g (suc m)) in absurd (omega (arith, h, p, le-mul_of_pos_right g (zero-lt-suc m)))
 
--- the literal of an integer is that of its capped value
-pub literal_capped : (negative : Bool) (n : ℕ) → literal_of negative (min n (2 ^ 64 + 1)) ≡ literal_of negative n
-literal_capped negative n = capped_literal_when negative n (nat_le n (2 ^ 64)) refl
+-- a reduced fraction is the rational
+rational_is : (negative : Bool) (n d : ℕ) (p : 0 < d) (short : n ≤ 2 ^ 64) (small : d ≤ 2 ^ 60) (r : Rat) → IsReduced (signed negative n) d r.num r.den → r ≡ rational negative n d p short small
+rational_is negative n d p short small r h =
+    let g = h.0 in
+    let is : IsGcd n d g = subst (λ (k : ℕ). IsGcd k d g) (abs-signed negative n) h.1.0 in
+    let some : 0 < g = pos_of_dvd_of_pos is.1 p in
+    let same : g ≡ (divisor n d).0 = same_from_IsGcd n d g (divisor n d).0 is (divisor n d).1 in
+    same_rat r (rational negative n d p short small)
+    (numerator_is negative n g r.num some h.1.1 ∙ ap (λ (k : ℕ). signed negative (n / k)) same)
+    (sym (quotient d g r.den some h.1.2) ∙ ap (λ (k : ℕ). d / k) same)
+
+-- by whether the fraction is within the limits
+narrow_when : (negative : Bool) (n d : ℕ) (p : 0 < d) (r : Rat) → IsReduced (signed negative n) d r.num r.den → n ≤ 2 ^ 64 → d ≤ 2 ^ 60 → (narrow : Bool) (e : is_narrow n d ≡ narrow) → literal.Value r ≡ literal_when negative n d p narrow e
+narrow_when negative n d p r h short small true e = ap (λ (x : Rat). literal.Value x) (rational_is negative n d p _ _ r h)
+narrow_when negative n d p r h short small false e = absurd (false≢true (sym e ∙ and_from _ _ (le-leb n (2 ^ 64) short) (le-leb d (2 ^ 60) small)))
+
+-- the literal of a fraction within the limits is the reduced fraction
+pub literal_narrow : (negative : Bool) (n d : ℕ) (p : 0 < d) (r : Rat) → IsReduced (signed negative n) d r.num r.den → n ≤ 2 ^ 64 → d ≤ 2 ^ 60 → literal.Value r ≡ literal_of negative n d p
+literal_narrow negative n d p r h short small = narrow_when negative n d p r h short small (is_narrow n d) refl
 
 -- minus n in 128 bits
 pub negated : (n : ℕ) → n ≤ 2 ^ 64 → to_z w128 (of_z w128 (pos 0 -ℤ to_z w128 n)) ≡ neg_ℤ (pos n)
 negated n h =
     rw (to_z_pos w128 n (omega (arith, h)), +ℤ_idl (neg_ℤ (pos n))) (to_z-of_z w128 (neg_ℤ (pos n)) (fits_signed_from_abs w128 (neg_ℤ (pos n)) (rw (abs-signed true n) (omega (arith, h)))))
 
--- ---- digits
+-- a numerator in 128 bits
+pub kept : (negative : Bool) (n : ℕ) → n ≤ 2 ^ 64 → to_z w128 (of_z w128 (signed negative n)) ≡ signed negative n
+kept negative n h = to_z-of_z w128 (signed negative n) (fits_signed_from_abs w128 (signed negative n) (rw (abs-signed negative n) (omega (arith, h))))
+
+-- ---- digits under a cap
 
 -- more digits make no less
-decimal_grows : (n : ℕ) (cs : List ℕ) → n ≤ decimal n cs
-decimal_grows n [] = omega arith
-decimal_grows n (c ∷ cs) = omega (arith, decimal_grows (n * 10 + (c - 48)) cs)
-
-capped_when : (n : ℕ) (cs : List ℕ) (below : Bool) → nat_le n (2 ^ 64 + 1) ≡ below → min (decimal (min n (2 ^ 64 + 1)) cs) (2 ^ 64 + 1) ≡ min (decimal n cs) (2 ^ 64 + 1)
-capped_when n cs true e = rw (min-eq_left (leb-true n (2 ^ 64 + 1) e)) refl
-capped_when n cs false e =
-    let above : 2 ^ 64 + 1 ≤ n = omega (arith, leb-false n (2 ^ 64 + 1) e) in
-    let right : 2 ^ 64 + 1 ≤ decimal n cs = omega (arith, above, decimal_grows n cs) in
-    rw (min-eq_right above) (min-eq_right (decimal_grows (2 ^ 64 + 1) cs) ∙ sym (min-eq_right right))
+grows : (base n : ℕ) (cs : List ℕ) → n ≤ value_on (suc base) n cs
+grows base n [] = omega arith
+grows base n (c ∷ cs) = omega (arith, grows base (n * suc base + weight c) cs, le-mul_of_pos_right n (zero-lt-suc base))
 
 -- past the cap it does not matter what came before
-pub decimal_capped : (n : ℕ) (cs : List ℕ) → min (decimal (min n (2 ^ 64 + 1)) cs) (2 ^ 64 + 1) ≡ min (decimal n cs) (2 ^ 64 + 1)
-decimal_capped n cs = capped_when n cs (nat_le n (2 ^ 64 + 1)) refl
+capped_past : (base n : ℕ) (cs : List ℕ) → 2 ^ 64 + 1 ≤ n → min (value_on base (2 ^ 64 + 1) cs) (2 ^ 64 + 1) ≡ min (value_on base n cs) (2 ^ 64 + 1)
+capped_past base n [] h = omega (arith, h)
+capped_past zero n (c ∷ cs) h =
+    let same : (2 ^ 64 + 1) * 0 + weight c ≡ n * 0 + weight c = omega arith in ap (λ (m : ℕ). min (value_on 0 m cs) (2 ^ 64 + 1)) same
+capped_past (suc base) n (c ∷ cs) h =
+    min-eq_right (grows base (2 ^ 64 + 1) (c ∷ cs)) ∙ sym (min-eq_right (omega (arith, h, grows base n (c ∷ cs))))
+
+-- by whether the value is past the cap
+capped_when : (base n : ℕ) (cs : List ℕ) (below : Bool) → nat_le n (2 ^ 64 + 1) ≡ below → min (value_on base (min n (2 ^ 64 + 1)) cs) (2 ^ 64 + 1) ≡ min (value_on base n cs) (2 ^ 64 + 1)
+capped_when base n cs true e = rw (min-eq_left (leb-true n (2 ^ 64 + 1) e)) refl
+capped_when base n cs false e =
+    let above : 2 ^ 64 + 1 ≤ n = omega (arith, leb-false n (2 ^ 64 + 1) e) in rw (min-eq_right above) (capped_past base n cs above)
+
+-- the value under a cap may be kept under it at each digit
+pub value_capped : (base n : ℕ) (cs : List ℕ) → min (value_on base (min n (2 ^ 64 + 1)) cs) (2 ^ 64 + 1) ≡ min (value_on base n cs) (2 ^ 64 + 1)
+value_capped base n cs = capped_when base n cs (nat_le n (2 ^ 64 + 1)) refl
+
+-- ---- fractions
+
+-- the token of a fraction with a literal
+pub fraction_is : (negative : Bool) (n d : ℕ) (l : Literal) → 0 < d → l ≡ literal_of negative n (suc (d - 1)) (zero-lt-suc (d - 1)) → number l ≡ fraction negative n d
+fraction_is negative n zero l p h = absurd (omega arith)
+fraction_is negative n (suc d) l p h =
+    let e : suc d - 1 ≡ d = omega arith in ap number (subst (λ (k : ℕ). l ≡ literal_of negative n (suc k) (zero-lt-suc k)) e h)
+
+-- ---- characters by their codes
+
+-- the code of a character is below the cap
+scalar_small : (n : ℕ) → is_scalar n ≡ true → n ≤ 2 ^ 64 + 1
+scalar_small n h = grind (arith, nat_tests)
+
+-- by whether the code is past the cap
+scalar_when : (n : ℕ) (below : Bool) → nat_le n (2 ^ 64 + 1) ≡ below → scalar (min n (2 ^ 64 + 1)) ≡ scalar n
+scalar_when n true e = rw (min-eq_left (leb-true n (2 ^ 64 + 1) e)) refl
+scalar_when n false e =
+    let above : 2 ^ 64 + 1 ≤ n = omega (arith, leb-false n (2 ^ 64 + 1) e) in
+    let none : is_scalar n ≡ false = false_from_ne_true (is_scalar n) (λ h. absurd (omega (arith, scalar_small n h, leb-false n (2 ^ 64 + 1) e))) in
+    rw (min-eq_right above, none) refl
+
+-- a code under a cap has the same character
+pub scalar_capped : (n : ℕ) → scalar (min n (2 ^ 64 + 1)) ≡ scalar n
+scalar_capped n = scalar_when n (nat_le n (2 ^ 64 + 1)) refl

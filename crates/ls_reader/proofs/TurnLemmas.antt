@@ -1,5 +1,5 @@
 -- A reader's turns keep to the grammar, and it stops at the first fault.
-use Rattle.std.proofs.Common.{◌≡◌, ℕ, ◌+◌, ◌-◌, ◌<◌, ◌≤◌, inl, inr, eqb, List, [], ◌∷◌, ◌++◌, length, Result, Ok, Err, refl, sym, ap, subst, ◌∙◌, append_assoc, arith, length-append}
+use Rattle.std.proofs.Common.{◌≡◌, ℕ, ◌+◌, ◌-◌, ◌<◌, ◌≤◌, inl, inr, eqb, List, [], ◌∷◌, ◌++◌, length, take, Result, Ok, Err, refl, sym, ap, subst, ◌∙◌, append_assoc, arith, length-append}
 use Rattle.std.proofs.lemmas.Bool.{cond_both}
 use Rattle.std.proofs.lemmas.List.{append-nil, take_at}
 use Rattle.std.proofs.lemmas.Str.{len_utf8_bounds}
@@ -9,21 +9,20 @@ use Rattle.ls_reader.specs.declared.builder.Builder.{Builder}
 use Rattle.ls_reader.specs.declared.fault.Failure.{Failure}
 use Rattle.ls_reader.specs.declared.fault.Failure.TheVariants as failure
 use Rattle.ls_reader.specs.declared.fault.FaultKind.{FaultKind}
-use Rattle.ls_reader.specs.declared.fault.FaultKind.TheVariants.{Unclosed, NotBuilt}
+use Rattle.ls_reader.specs.declared.fault.FaultKind.TheVariants.{Unclosed}
+use Rattle.ls_reader.specs.declared.fault.Stop.{Stop}
+use Rattle.ls_reader.specs.declared.fault.Stop.TheVariants as stop
 use Rattle.ls_reader.specs.declared.token.Token.{Token}
-use Rattle.ls_reader.specs.declared.token.Token.TheVariants as token
-use Rattle.ls_reader.specs.declared.token.Bracket.TheVariants as bracket
-use Rattle.ls_reader.specs.declared.token.Mark.TheVariants as mark
 use Rattle.ls_reader.specs.Places.{start, after, after_all}
-use Rattle.ls_reader.specs.Lexing.{lexeme}
+use Rattle.ls_reader.specs.Lexing.{Fault, Fails, lexeme}
 use Rattle.ls_reader.specs.Machine.{step, finish, nothing, Found, FailsWith}
-use Rattle.ls_reader.specs.Lexemes.{IsToken, IsLexeme, Lexeme, Lexed, Extent, Piece, piece, pieces, text_of}
-use Rattle.ls_reader.specs.Trees.{Tree, Opening, list_of, mark_of, Begun}
+use Rattle.ls_reader.specs.Lexemes.{IsLexeme, IsStuck, Lexeme, Lexed, Extent, Piece, piece, pieces, text_of}
+use Rattle.ls_reader.specs.Trees.{Tree, Opening, list_of, dot_of, tail_of, mark_of, feature_of, chosen_of, Begun}
 use Rattle.ls_reader.specs.Forms.{FormsIn}
 use Rattle.ls_reader.specs.Faults.{Refused, NoLexeme, FaultNext, FaultIn}
 use Rattle.ls_reader.specs.Answers.{FailsIn}
-use Rattle.ls_reader.specs.Running.{Reading, used, stepped, taken, advance, IsSmall}
-use Rattle.ls_reader.proofs.LexemeLemmas.{Sound, lexeme_sound, no_lexeme}
+use Rattle.ls_reader.specs.Running.{Reading, used, stepped, taken, advance, IsSmall, IsWithin}
+use Rattle.ls_reader.proofs.LexemeLemmas.{Sound, lexeme_sound, no_lexeme, some_text}
 use Rattle.ls_reader.proofs.BuilderLemmas.{builder_of, Holds, Stepped, step_holds}
 
 -- ---- places
@@ -90,27 +89,16 @@ abbrev pub Turned : List ℕ → Reading → Result Reading Found → Type 0
 Turned cs r (Ok s) = Stands cs s × (length s.rest < length r.rest) × (IsSmall r.at r.rest → IsSmall s.at s.rest)
 Turned cs r (Err x) = 0 < length r.rest → FaultIn cs x.0 x.1
 
-fault_stuck : (at place : Place) (rest : List ℕ) (w : List Opening) (k : FaultKind) → 0 < length rest → place ≡ at → NoLexeme rest → k ≡ NotBuilt → FaultNext at rest w k place
-fault_stuck at place [] w k lt e not is = absurd (omega arith)
-fault_stuck at place (c ∷ cs) w k lt e not is = inl (not, is, e)
+-- a front without a lexeme is a fault
+fault_stuck : (at place : Place) (rest before : List ℕ) (w : List Opening) (k : FaultKind) → 0 < length rest → place ≡ after_all at before → NoLexeme rest → IsStuck rest k before → FaultNext at rest w k place
+fault_stuck at place [] before w k lt e not is = absurd (omega arith)
+fault_stuck at place (c ∷ cs) before w k lt e not is = inl (before, not, is, e)
 
 fault_refused : (at place : Place) (rest : List ℕ) (w : List Opening) (k : FaultKind) (t : Token) (text more : List ℕ) → 0 < length rest → IsLexeme t text more → rest ≡ text ++ more → Refused t (extent at text) w k place → FaultNext at rest w k place
 fault_refused at place [] w k t text more lt is eq refused = absurd (omega arith)
 fault_refused at place (c ∷ cs) w k t text more lt is eq refused = inr (t, text, more, is, eq, refused)
 
-some_token : (t : Token) (text more : List ℕ) → IsToken t text more → 0 < length text
-some_token t [] more h = absurd (h.0 refl)
-some_token t (c ∷ cs) more h = omega arith
-
--- a lexeme is not empty
-pub some_text : (t : Token) (text more : List ℕ) → IsLexeme t text more → 0 < length text
-some_text token.Gap text more h = rw h.2 (omega arith)
-some_text (token.Open bracket.Round) text more h = rw h (omega arith)
-some_text token.Close text more h = rw h (omega arith)
-some_text (token.Mark mark.Quote) text more h = rw h (omega arith)
-some_text (token.Atom form) text more h = some_token (token.Atom form) text more h
-some_text (token.Bad kind) text more h = some_token (token.Bad kind) text more h
-
+-- a lexeme that is found leaves less
 found_less : (cs : List ℕ) (x : Token × List ℕ) → Sound cs (Ok x) → length x.1 < length cs
 found_less cs x h = omega (arith, some_text x.0 h.0 x.1 h.1, ap length h.2, length-append h.0 x.1)
 
@@ -141,21 +129,32 @@ turn_step cs r s t text more is at to to_is (Err x) h = λ lt. record {
       (subst (λ (e : Extent). Refused t e s.holds.w x.0 x.1) (ap (λ (p : Place). record { from = r.at; to = p }) to_is ∙ ap (λ (p : Place). extent p text) s.at) h);
 }
 
-turn_lexeme : (cs : List ℕ) (r : Reading) → Stands cs r → (f : Result (Token × List ℕ) FaultKind) → lexeme r.rest ≡ f → Sound r.rest f → Turned cs r (taken r f)
+-- a turn, by the lexeme that is found
+turn_lexeme : (cs : List ℕ) (r : Reading) → Stands cs r → (f : Result (Token × List ℕ) Fault) → lexeme r.rest ≡ f → Sound r.rest f → Turned cs r (taken r f)
 turn_lexeme cs r s (Ok x) e h =
     let to = after_all r.at (used r.rest x.1) in
     let here : Extent = record { from = r.at; to = to } in
     turn_step cs r s x.0 h.0 x.1 h.1 h.2 to (ap (after_all r.at) (used_is r.rest h.0 x.1 h.2)) (step r.at to x.0 r.builder)
     (subst (λ (b : Builder). Stepped (pieces start s.lexemes) here x.0 s.holds.w (step r.at to x.0 b)) (sym s.holds.is) (step_holds x.0 here (pieces start s.lexemes) s.holds.whole s.holds.w s.holds.begun))
-turn_lexeme cs r s (Err k) e h = λ lt. record {
+turn_lexeme cs r s (Err x) e h = λ lt. record {
   lexemes = s.lexemes;
   rest = r.rest;
   lexed = s.lexed;
   whole = s.holds.whole;
   w = s.holds.w;
   begun = s.holds.begun;
-  fault = fault_stuck (after_all start (text_of s.lexemes)) r.at r.rest s.holds.w k lt s.at (no_lexeme r.rest k e) h;
+  fault = fault_stuck (after_all start (text_of s.lexemes)) (after_all r.at (take x.1 r.rest)) r.rest h.0 s.holds.w x.0 lt
+      (ap (after_all r.at) h.2 ∙ ap (λ (p : Place). after_all p h.0) s.at) (no_lexeme r.rest x e) h.1;
 }
+
+-- a fault is within the text
+fault_within : (cs : List ℕ) (x : Fault) → lexeme cs ≡ Err x → x.1 ≤ length cs
+fault_within cs x e = (subst (Sound cs) e (lexeme_sound cs)).3
+
+-- the place of a fault is within the text
+pub stop_within : (cs : List ℕ) (e : Stop) → Fails e (lexeme cs) → IsWithin e cs
+stop_within cs stop.Memory f = tt
+stop_within cs (stop.Fault k n) f = fault_within cs (k, n) f
 
 -- a turn keeps to the grammar
 pub turned : (cs : List ℕ) (r : Reading) → Stands cs r → Turned cs r (advance r)
@@ -191,6 +190,10 @@ finish_holds : (cs : List ℕ) (xs : List Lexeme) (whole : List Tree) (w : List 
 finish_holds cs xs whole [] l b = record { lexemes = xs; lexed = l; whole = whole; begun = b; are = refl }
 finish_holds cs xs whole (list_of kind o ts ∷ w) l b = record { lexemes = xs; rest = []; lexed = l; whole = whole; w = list_of kind o ts ∷ w; begun = b; fault = (refl, refl) }
 finish_holds cs xs whole (mark_of kind o us ∷ w) l b = record { lexemes = xs; rest = []; lexed = l; whole = whole; w = mark_of kind o us ∷ w; begun = b; fault = (refl, refl) }
+finish_holds cs xs whole (dot_of o ts d us ∷ w) l b = record { lexemes = xs; rest = []; lexed = l; whole = whole; w = dot_of o ts d us ∷ w; begun = b; fault = (refl, refl) }
+finish_holds cs xs whole (tail_of o ts d us t vs ∷ w) l b = record { lexemes = xs; rest = []; lexed = l; whole = whole; w = tail_of o ts d us t vs ∷ w; begun = b; fault = (refl, refl) }
+finish_holds cs xs whole (feature_of o plus us ∷ w) l b = record { lexemes = xs; rest = []; lexed = l; whole = whole; w = feature_of o plus us ∷ w; begun = b; fault = (refl, refl) }
+finish_holds cs xs whole (chosen_of o plus us t vs ∷ w) l b = record { lexemes = xs; rest = []; lexed = l; whole = whole; w = chosen_of o plus us t vs ∷ w; begun = b; fault = (refl, refl) }
 
 pub finished : (cs : List ℕ) (r : Reading) → Stands cs r → r.rest ≡ [] → Finished cs (finish r.builder)
 finished cs r s e =

@@ -1,5 +1,5 @@
 -- What the reader answers.
-use Rattle.std.specs.Prelude.{ℕ, ◌≡◌, List, Result, Ok, Err}
+use Rattle.std.specs.Prelude.{ℕ, ◌≡◌, List, Result, Ok, Err, Option, Some, None, IfSome}
 use Rattle.ls_reader.specs.declared.place.Place.{Place}
 use Rattle.ls_reader.specs.declared.datum.Datum.{Datum}
 use Rattle.ls_reader.specs.declared.datum.Span.{Span}
@@ -11,15 +11,24 @@ use Rattle.ls_reader.specs.declared.fault.ReadError.{ReadError}
 use Rattle.ls_reader.specs.declared.fault.ReadError.TheVariants as errors
 use Rattle.ls_reader.specs.Places.{span_at}
 use Rattle.ls_reader.specs.Forms.{Forms}
-use Rattle.ls_reader.specs.Characters.{ends_token}
-use Rattle.ls_reader.specs.Faults.{Fault, FaultIn, IsWholeOf, FaultBefore}
+use Rattle.ls_reader.specs.Faults.{Fault, FaultIn}
 
--- the error of a fault at a place
-abbrev pub error_of : Failure → ReadError
-error_of failure.Memory = errors.Memory
-error_of (failure.Fault fault_kind.StrayClose at) = errors.StrayClose (span_at at)
-error_of (failure.Fault fault_kind.Unclosed at) = errors.Unclosed (span_at at)
-error_of (failure.Fault fault_kind.NotBuilt at) = errors.NotBuilt (span_at at)
+-- the fault that an error tells, with its span; want of memory is none
+abbrev pub fault_of : ReadError → Option (FaultKind × Span)
+fault_of (errors.NotUtf8 span) = Some (fault_kind.NotUtf8, span)
+fault_of (errors.BadToken span) = Some (fault_kind.BadToken, span)
+fault_of (errors.StrayClose span) = Some (fault_kind.StrayClose, span)
+fault_of (errors.Unclosed span) = Some (fault_kind.Unclosed, span)
+fault_of (errors.BadDot span) = Some (fault_kind.BadDot, span)
+fault_of (errors.TooDeep span) = Some (fault_kind.TooDeep, span)
+fault_of (errors.ZeroDenominator span) = Some (fault_kind.ZeroDenominator, span)
+fault_of (errors.Label span) = Some (fault_kind.Label, span)
+fault_of errors.Memory = None
+
+-- the fault of a failure, with its empty span
+abbrev pub fault_of_failure : Failure → Option (FaultKind × Span)
+fault_of_failure failure.Memory = None
+fault_of_failure (failure.Fault kind at) = Some (kind, span_at at)
 
 -- the failure is the fault of the characters, unless memory ran out
 abbrev pub FailsIn : List ℕ → Failure → Type 0
@@ -31,39 +40,24 @@ abbrev pub FailsAt : List ℕ → Failure → Type 0
 FailsAt bytes failure.Memory = Unit {0}
 FailsAt bytes (failure.Fault k place) = Fault bytes k place
 
--- the failure is the fault of a text that a byte follows which is not accepted, unless memory ran out
-abbrev pub FailsBefore : List ℕ → ℕ → Failure → Type 0
-FailsBefore text next failure.Memory = Unit {0}
-FailsBefore text next (failure.Fault k place) = (front : List ℕ) × IsWholeOf text (ends_token next) front × FaultBefore text front k place
-
--- the failure of a front, or that of the place behind the text where it is only that the front is not ended
-abbrev pub past : Failure → Place → Failure
-past failure.Memory at = failure.Memory
-past (failure.Fault fault_kind.StrayClose place) at = failure.Fault fault_kind.StrayClose place
-past (failure.Fault fault_kind.Unclosed place) at = failure.Fault fault_kind.NotBuilt at
-past (failure.Fault fault_kind.NotBuilt place) at = failure.Fault fault_kind.NotBuilt place
-
--- the bytes have a fault of this kind, with its place in the span
+-- the bytes have a fault of this kind, with its place as the span
 abbrev pub FaultAt : List ℕ → FaultKind → Span → Type 0
 FaultAt bytes k span = (place : Place) × Fault bytes k place × (span ≡ span_at place)
 
 -- the error is the fault of the bytes, unless memory ran out
 abbrev pub IsFaultOf : List ℕ → ReadError → Type 0
-IsFaultOf bytes errors.Memory = Unit {0}
-IsFaultOf bytes (errors.StrayClose span) = FaultAt bytes fault_kind.StrayClose span
-IsFaultOf bytes (errors.Unclosed span) = FaultAt bytes fault_kind.Unclosed span
-IsFaultOf bytes (errors.NotBuilt span) = FaultAt bytes fault_kind.NotBuilt span
+IsFaultOf bytes e = IfSome (fault_of e) (λ fault. FaultAt bytes fault.0 fault.1)
 
 -- the answer is these forms, unless memory ran out
 abbrev pub ReadsAs : List Datum → Result (List Datum) ReadError → Type 0
 ReadsAs fs (Ok gs) = gs ≡ fs
 ReadsAs fs (Err e) = e ≡ errors.Memory
 
+-- the answer is this fault, unless memory ran out
+abbrev pub RefusesAs : FaultKind → Place → Result (List Datum) ReadError → Type 0
+RefusesAs k place (Ok fs) = ⊥
+RefusesAs k place (Err e) = IfSome (fault_of e) (λ fault. fault ≡ (k, span_at place))
+
 -- the bytes are no forms
 abbrev pub HasNoForms : List ℕ → Type 0
 HasNoForms bytes = (fs : List Datum) → Forms bytes fs → ⊥
-
--- the bytes are no forms, unless memory ran out
-abbrev pub IsRefusal : List ℕ → ReadError → Type 0
-IsRefusal bytes errors.Memory = Unit {0}
-IsRefusal bytes e = HasNoForms bytes

@@ -1,37 +1,80 @@
 -- The fault of a text that is no forms: its kind and its place.
-use Rattle.std.specs.Prelude.{ℕ, ◌≡◌, ◌≢◌, ◌≤◌, ◌+◌, ◌⊎◌, Bool, true, false, List, [], ◌∷◌, ◌++◌, length, slice_index}
-use Rattle.std.specs.List.{AllByRecursion}
+use Rattle.std.specs.Prelude.{ℕ, ◌≡◌, ◌≤◌, ◌⊎◌, true, false, IsTrue, None, List, [], ◌∷◌, ◌++◌, length, take}
+use Rattle.std.specs.List.{flat_map}
+use Rattle.std.specs.Str.{chars, IsUtf8}
+use Rattle.std.specs.Str.Lossy.{utf8_valid_len}
 use Rattle.ls_reader.specs.declared.place.Place.{Place}
 use Rattle.ls_reader.specs.declared.datum.Datum.{Datum}
 use Rattle.ls_reader.specs.declared.fault.FaultKind.{FaultKind}
-use Rattle.ls_reader.specs.declared.fault.FaultKind.TheVariants.{StrayClose, Unclosed, NotBuilt}
+use Rattle.ls_reader.specs.declared.fault.FaultKind.TheVariants.{NotUtf8, BadToken, StrayClose, Unclosed, BadDot, TooDeep}
 use Rattle.ls_reader.specs.declared.token.Token.{Token}
 use Rattle.ls_reader.specs.declared.token.Token.TheVariants as token
-use Rattle.ls_reader.specs.Characters.{is_accepted, is_constituent, ends_token}
 use Rattle.ls_reader.specs.Places.{start, after_all}
-use Rattle.ls_reader.specs.Lexemes.{IsLexeme, Lexeme, Lexed, Extent, pieces, text_of}
-use Rattle.ls_reader.specs.Trees.{Tree, Opening, list_of, mark_of, opening_start, Begun}
-use Rattle.ls_reader.specs.Forms.{FormsIn}
+use Rattle.ls_reader.specs.Lexemes.{IsLexeme, IsStuck, Lexeme, Lexed, Extent, pieces, text_of}
+use Rattle.ls_reader.specs.Data as made
+use Rattle.ls_reader.specs.Features.{holds}
+use Rattle.ls_reader.specs.Trees.{Tree, yields, kept, Opening, list_of, dot_of, tail_of, mark_of, feature_of, chosen_of, opening_start, admits, Begun}
 
--- ---- texts of accepted characters
+-- A second datum behind a dot is a fault where it begins.
+abbrev pub Second : Extent → List Opening → FaultKind → Place → Type 0
+Second e w k p = (admits w ≡ false) × (k ≡ BadDot) × (p ≡ e.from)
 
--- a construct that would be 257 deep is a fault where it begins
+-- A construct that would be 257 deep is a fault where it begins.
 abbrev pub TooMany : Extent → List Opening → FaultKind → Place → Type 0
-TooMany e w k p = (256 ≤ length w) × (k ≡ NotBuilt) × (p ≡ e.from)
+TooMany e w k p = (256 ≤ length w) × (k ≡ TooDeep) × (p ≡ e.from)
 
--- a closing bracket that ends no list is a fault at its place (2.4.2)
+-- the same of a construct that is a datum, where it is no second one behind a dot
+abbrev pub TooDeepDatum : Extent → List Opening → FaultKind → Place → Type 0
+TooDeepDatum e w k p = (admits w ≡ true) × TooMany e w k p
+
+-- A closing bracket that ends no list and no vector is a fault at its place (2.4.2).
 abbrev pub Stray : Extent → FaultKind → Place → Type 0
 Stray e k p = (k ≡ StrayClose) × (p ≡ e.from)
+
+-- A dot where none may stand is a fault at its place, and so is the closing bracket of a list whose dot no datum has
+-- followed (2.4.1).
+abbrev pub Misplaced : Extent → FaultKind → Place → Type 0
+Misplaced e k p = (k ≡ BadDot) × (p ≡ e.from)
+
+-- A datum that ends here ends a feature expression out of form (24.1.2.1), that of the `#+` or `#-` at the place.
+abbrev pub EndsWrong : Datum → List Opening → Place → Type 0
+EndsWrong d [] p = ⊥
+EndsWrong d (list_of kind o ts ∷ w) p = ⊥
+EndsWrong d (dot_of o ts b us ∷ w) p = ⊥
+EndsWrong d (tail_of o ts b us t vs ∷ w) p = ⊥
+EndsWrong d (mark_of kind e us ∷ w) p = EndsWrong (made.mark_on kind e.from d) w p
+EndsWrong d (feature_of e plus us ∷ w) p = (holds d ≡ None) × (p ≡ e.from)
+EndsWrong d (chosen_of e plus us t vs ∷ w) p = IsTrue (kept plus (yields t)) × EndsWrong d w p
+
+-- the fault of a datum that ends a feature expression out of form; it is met at the last piece of the datum
+abbrev pub OutOfForm : Datum → List Opening → FaultKind → Place → Type 0
+OutOfForm d w k p = (k ≡ BadToken) × EndsWrong d w p
+
+-- A closing bracket is refused where it ends nothing, where it ends a list whose dot no datum has followed, and where the
+-- list or vector that it ends is a feature expression out of form, or ends one.
+abbrev pub RefusesClose : Extent → List Opening → FaultKind → Place → Type 0
+RefusesClose e [] k p = Stray e k p
+RefusesClose e (list_of kind o ts ∷ w) k p = OutOfForm (made.list kind o.from e.to (flat_map yields ts)) w k p
+RefusesClose e (dot_of o ts d us ∷ w) k p = Misplaced e k p
+RefusesClose e (tail_of o ts d us t vs ∷ w) k p = (x : Datum) × (yields t ≡ x ∷ []) × OutOfForm (made.dotted_list o.from e.to (flat_map yields ts) x) w k p
+RefusesClose e (mark_of kind o us ∷ w) k p = Stray e k p
+RefusesClose e (feature_of o plus us ∷ w) k p = Stray e k p
+RefusesClose e (chosen_of o plus us t vs ∷ w) k p = Stray e k p
+
+-- A dot is refused unless the innermost construct is a list with at least one datum and no dot.
+abbrev pub RefusesDot : Extent → List Opening → FaultKind → Place → Type 0
+RefusesDot e (list_of kind o ts ∷ w) k p = (made.takes_dot kind (flat_map yields ts) ≡ false) × Misplaced e k p
+RefusesDot e w k p = Misplaced e k p
 
 -- the token is refused, with a fault at the place, where these constructs are begun
 abbrev pub Refused : Token → Extent → List Opening → FaultKind → Place → Type 0
 Refused token.Gap e w k p = ⊥
-Refused (token.Open kind) e w k p = TooMany e w k p
-Refused (token.Mark kind) e w k p = TooMany e w k p
-Refused token.Close e [] k p = Stray e k p
-Refused token.Close e (mark_of kind o us ∷ w) k p = Stray e k p
-Refused token.Close e (list_of kind o ts ∷ w) k p = ⊥
-Refused (token.Atom form) e w k p = ⊥
+Refused (token.Open kind) e w k p = Second e w k p ⊎ TooDeepDatum e w k p
+Refused token.Close e w k p = RefusesClose e w k p
+Refused token.Dot e w k p = RefusesDot e w k p
+Refused (token.Mark kind) e w k p = Second e w k p ⊎ TooDeepDatum e w k p
+Refused (token.Feature plus) e w k p = TooMany e w k p
+Refused (token.Atom form) e w k p = Second e w k p ⊎ OutOfForm (made.datum e.from e.to.byte form) w k p
 Refused (token.Bad kind) e w k p = (k ≡ kind) × (p ≡ e.from)
 
 -- no lexeme begins here
@@ -42,7 +85,7 @@ NoLexeme cs = (t : Token) (text more : List ℕ) → IsLexeme t text more → cs
 abbrev pub FaultNext : Place → List ℕ → List Opening → FaultKind → Place → Type 0
 FaultNext at [] [] k place = ⊥
 FaultNext at [] (o ∷ w) k place = (k ≡ Unclosed) × (place ≡ opening_start o)
-FaultNext at (c ∷ cs) w k place = (NoLexeme (c ∷ cs) × (k ≡ NotBuilt) × (place ≡ at))
+FaultNext at (c ∷ cs) w k place = ((before : List ℕ) × NoLexeme (c ∷ cs) × IsStuck (c ∷ cs) k before × (place ≡ after_all at before))
     ⊎ ((t : Token) × (text : List ℕ) × (more : List ℕ) × IsLexeme t text more × (c ∷ cs ≡ text ++ more) × Refused t (record { from = at; to = after_all at text }) w k place)
 
 -- the first fault of the characters: what comes before it is whole trees and constructs begun
@@ -55,45 +98,12 @@ pub record FaultIn (cs : List ℕ) (k : FaultKind) (place : Place) : Type 0 wher
   pub begun : Begun (pieces start lexemes) whole w
   pub fault : FaultNext (after_all start (text_of lexemes)) rest w k place
 
--- every character is one that this reader takes
-abbrev pub AreAccepted : List ℕ → Type 0
-AreAccepted cs = AllByRecursion (λ c. is_accepted c ≡ true) cs
+-- the bytes are not UTF-8: the place is behind the longest front that is
+pub record NotText (bytes : List ℕ) (k : FaultKind) (place : Place) : Type 0 where
+  pub not_utf8 : IsUtf8 bytes → ⊥
+  pub kind : k ≡ NotUtf8
+  pub stands : place ≡ after_all start (chars (take (utf8_valid_len bytes) bytes))
 
--- ---- texts with a byte that is not accepted
-
--- the last character, if there is one, is no constituent
-abbrev pub EndsApart : List ℕ → Type 0
-EndsApart text = (i : ℕ) → length text ≡ i + 1 → is_constituent (slice_index text i) ≡ false
-
--- the front is the text without the token that it ends in, if it ends in one
-abbrev pub IsCut : List ℕ → List ℕ → Type 0
-IsCut text front = (token : List ℕ) × (text ≡ front ++ token) × AllByRecursion (λ c. is_constituent c ≡ true) token × EndsApart front
-
--- the front is what is whole of a text, by whether what follows it ends a token
-abbrev pub IsWholeOf : List ℕ → Bool → List ℕ → Type 0
-IsWholeOf text true front = front ≡ text
-IsWholeOf text false front = IsCut text front
-
--- the characters have no fault, or only that the text ends within a construct
-abbrev pub CanGoOn : List ℕ → Type 0
-CanGoOn cs = ((fs : List Datum) × FormsIn cs fs) ⊎ ((place : Place) × FaultIn cs Unclosed place)
-
--- the fault of a text that a byte follows which is not accepted: that of its front, or else the byte
-abbrev pub FaultBefore : List ℕ → List ℕ → FaultKind → Place → Type 0
-FaultBefore text front k place = (FaultIn front k place × (k ≢ Unclosed)) ⊎ (CanGoOn front × (k ≡ NotBuilt) × (place ≡ after_all start text))
-
--- the fault of bytes of which one is not accepted, with the text before it and what is whole of that
-pub record FaultPast (bytes : List ℕ) (k : FaultKind) (place : Place) : Type 0 where
-  pub text : List ℕ
-  pub next : ℕ
-  pub more : List ℕ
-  pub are : bytes ≡ text ++ next ∷ more
-  pub accepted : AreAccepted text
-  pub stops : is_accepted next ≡ false
-  pub front : List ℕ
-  pub whole : IsWholeOf text (ends_token next) front
-  pub fault : FaultBefore text front k place
-
--- the fault of bytes; accepted bytes are ASCII, and so their own characters
+-- the fault of bytes
 abbrev pub Fault : List ℕ → FaultKind → Place → Type 0
-Fault bytes k place = (AreAccepted bytes × FaultIn bytes k place) ⊎ FaultPast bytes k place
+Fault bytes k place = NotText bytes k place ⊎ (IsUtf8 bytes × FaultIn (chars bytes) k place)

@@ -1,9 +1,17 @@
 pub mod Characters
 pub mod Places
+pub mod Fractions
+pub mod Sizes
 pub mod Numbers
+pub mod Strings
+pub mod Names
 pub mod Tokens
+pub mod CharNames
+pub mod Macros
+pub mod Comments
 pub mod Lexing
 pub mod Data
+pub mod Features
 pub mod Machine
 pub mod Lexemes
 pub mod Trees

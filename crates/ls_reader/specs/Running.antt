@@ -2,7 +2,6 @@
 use Rattle.std.specs.Prelude.{ℕ, ◌+◌, ◌-◌, ◌*◌, ◌^◌, ◌≤◌, ◌≡◌, List, length, take, Result, Ok, Err}
 use Rattle.ls_reader.specs.declared.place.Place.{Place}
 use Rattle.ls_reader.specs.declared.builder.Builder.{Builder}
-use Rattle.ls_reader.specs.declared.fault.FaultKind.{FaultKind}
 use Rattle.ls_reader.specs.declared.fault.Failure.{Failure}
 use Rattle.ls_reader.specs.declared.fault.Failure.TheVariants as failure
 use Rattle.ls_reader.specs.declared.fault.Stop.{Stop}
@@ -10,7 +9,7 @@ use Rattle.ls_reader.specs.declared.fault.Stop.TheVariants as stop
 use Rattle.ls_reader.specs.declared.reader.Reader.{Reader}
 use Rattle.ls_reader.specs.declared.token.Token.{Token}
 use Rattle.ls_reader.specs.Places.{after_all}
-use Rattle.ls_reader.specs.Lexing.{lexeme}
+use Rattle.ls_reader.specs.Lexing.{Fault, lexeme}
 use Rattle.ls_reader.specs.Machine.{step, Found, FailsWith}
 
 -- what is left, from where on, and what was read
@@ -32,10 +31,10 @@ abbrev pub stepped : Place → List ℕ → Result Builder Found → Result Read
 stepped at rest (Ok b) = Ok (record { at = at; rest = rest; builder = b })
 stepped at rest (Err x) = Err x
 
--- what is read once a lexeme is found
-abbrev pub taken : Reading → Result (Token × List ℕ) FaultKind → Result Reading Found
+-- what is read once a lexeme is found, or the fault is at its place
+abbrev pub taken : Reading → Result (Token × List ℕ) Fault → Result Reading Found
 taken r (Ok x) = let to = after_all r.at (used r.rest x.1) in stepped to x.1 (step r.at to x.0 r.builder)
-taken r (Err k) = Err (k, r.at)
+taken r (Err x) = Err (x.0, after_all r.at (take x.1 r.rest))
 
 -- what is read with one lexeme more
 abbrev pub advance : Reading → Result Reading Found
@@ -52,7 +51,12 @@ pub record IsSmall (at : Place) (rest : List ℕ) : Type 0 where
   pub line : at.line + length rest ≤ 2 ^ 27
   pub column : at.column + length rest ≤ 2 ^ 27
 
--- the failure at a place, from what stopped the lexer there
-abbrev pub failure_at : Stop → Place → Failure
-failure_at stop.Memory at = failure.Memory
-failure_at (stop.Fault k) at = failure.Fault k at
+-- the place of a fault is within the text
+abbrev pub IsWithin : Stop → List ℕ → Type 0
+IsWithin stop.Memory text = Unit {0}
+IsWithin (stop.Fault k n) text = n ≤ length text
+
+-- the failure from what stopped the lexer at the front of a text
+abbrev pub failure_at : Stop → Place → List ℕ → Failure
+failure_at stop.Memory at text = failure.Memory
+failure_at (stop.Fault k n) at text = failure.Fault k (after_all at (take n text))

@@ -1,22 +1,136 @@
--- What a token is (2.3).
-use Rattle.std.specs.Prelude.{ℕ, if◌then◌else◌, List, map}
-use Rattle.std.specs.Char.{to_ascii_uppercase}
-use Rattle.ls_object.specs.Symbols.{common_lisp_symbol}
+-- Tokens: how they are written (2.2), and what they are (2.3).
+use Rattle.std.specs.Prelude.{ℕ, Bool, true, false, ◌&&◌, if◌then◌else◌, ◌==◌, ◌≡◌, List, [], ◌∷◌, ◌++◌, length, map, Option, Some, None}
+use Rattle.std.specs.List.{flat_map, AllByRecursion}
 use Rattle.ls_reader.specs.declared.datum.Form.{Form, roll-Form}
 use Rattle.ls_reader.specs.declared.datum.Form.TheOpen.{Form-F}
-use Rattle.ls_reader.specs.declared.fault.FaultKind.TheVariants.{NotBuilt}
+use Rattle.ls_reader.specs.declared.datum.FloatFormat.{FloatFormat}
+use Rattle.ls_reader.specs.declared.fault.FaultKind.TheVariants.{BadToken}
+use Rattle.ls_reader.specs.declared.sign.Sign.{Sign}
+use Rattle.ls_reader.specs.declared.sign.Sign.TheVariants.{Plain, Exact, Escape}
+use Rattle.ls_reader.specs.declared.word.Role.{Role}
+use Rattle.ls_reader.specs.declared.word.Role.TheVariants.{Free, Radix, Bits, Uninterned}
 use Rattle.ls_reader.specs.declared.token.Token.{Token}
 use Rattle.ls_reader.specs.declared.token.Token.TheVariants as token
-use Rattle.ls_reader.specs.Numbers.{is_integer, is_float, is_negative, magnitude, literal_of}
+use Rattle.ls_reader.specs.Characters.{is_constituent, run_len}
+use Rattle.ls_reader.specs.Strings.{Inner, inners_text, inner_char, IsInner}
+use Rattle.ls_reader.specs.Numbers.{is_digit_in, is_rational_in, is_rational, number_of, float_of}
+use Rattle.ls_reader.specs.Names.{symbol_token}
 
--- the symbol that a token writes (2.3.4): its letters go to upper case
-abbrev pub symbol_of : List ℕ → Form
-symbol_of text = roll-Form (Form-F.Symbol (common_lisp_symbol (map to_ascii_uppercase text)))
+-- ---- how a token is written
 
--- the integer that a token writes (2.3.1.1)
-abbrev pub number_of : List ℕ → Form
-number_of text = roll-Form (Form-F.Number (literal_of (is_negative text) (magnitude text)))
+-- a part of a token: a constituent, a backslash and a character (2.1.4.6), or characters between bars (2.1.4.5)
+pub data Part : Type 0 where
+  constituent : ℕ → Part
+  single : ℕ → Part
+  barred : List Inner → Part
 
--- What a token is: an integer, a float, which this reader does not take, or else a symbol.
-unfoldable pub token_of : List ℕ → Token
-token_of text = if is_integer text then token.Atom (number_of text) else (if is_float text then token.Bad NotBuilt else token.Atom (symbol_of text))
+-- how a part is written
+abbrev pub part_text : Part → List ℕ
+part_text (constituent c) = c ∷ []
+part_text (single c) = 92 ∷ c ∷ []
+part_text (barred is) = 124 ∷ (inners_text is ++ 124 ∷ [])
+
+-- a part is in form
+abbrev pub IsPart : Part → Type 0
+IsPart (constituent c) = is_constituent c ≡ true
+IsPart (single c) = Unit {0}
+IsPart (barred is) = AllByRecursion (IsInner 124) is
+
+-- how parts are written
+abbrev pub parts_text : List Part → List ℕ
+parts_text ps = flat_map part_text ps
+
+-- an escaped character
+abbrev pub exact : Inner → Sign
+exact i = Exact (inner_char i)
+
+-- what a part stands for: plain and escaped characters, and that an escape stands there
+abbrev pub part_signs : Part → List Sign
+part_signs (constituent c) = Plain c ∷ []
+part_signs (single c) = Exact c ∷ []
+part_signs (barred is) = Escape ∷ map exact is
+
+-- what parts stand for
+abbrev pub signs_of : List Part → List Sign
+signs_of ps = flat_map part_signs ps
+
+-- ---- what a token is
+
+-- a plain character
+abbrev pub is_plain_sign : Sign → Bool
+is_plain_sign (Plain c) = true
+is_plain_sign (Exact c) = false
+is_plain_sign Escape = false
+
+-- a token without escapes
+abbrev pub are_plain : List Sign → Bool
+are_plain [] = true
+are_plain (s ∷ ss) = is_plain_sign s && are_plain ss
+
+-- the plain character of a sign
+abbrev pub sign_text : Sign → List ℕ
+sign_text (Plain c) = c ∷ []
+sign_text (Exact c) = []
+sign_text Escape = []
+
+-- the characters of a token without escapes
+abbrev pub plain_text : List Sign → List ℕ
+plain_text ss = flat_map sign_text ss
+
+-- a point
+abbrev pub is_point_char : ℕ → Bool
+is_point_char c = c == 46
+
+-- points alone
+abbrev pub are_points : List ℕ → Bool
+are_points text = run_len is_point_char text == length text
+
+-- a dot (2.3.3), or points, which are a fault
+abbrev pub points : ℕ → Token
+points count = if count == 1 then token.Dot else token.Bad BadToken
+
+-- a float, or else a symbol
+abbrev pub float_or_symbol : List ℕ → Option FloatFormat → Token
+float_or_symbol text (Some format) = token.Atom (roll-Form (Form-F.Float format))
+float_or_symbol text None = symbol_token (map Plain text)
+
+-- What a token without escapes is: an integer or a ratio (2.3.2.1), a dot (2.3.3), dots, which are a fault, a float
+-- (2.3.2.2), or a symbol (2.3.4).
+abbrev pub plain_token : List ℕ → Token
+plain_token text =
+    if is_rational text then number_of 10 text else
+    (if are_points text then points (length text) else
+    float_or_symbol text (float_of text))
+
+-- whether all characters are the digits 0 and 1
+abbrev pub are_bits : List ℕ → Bool
+are_bits text = run_len (is_digit_in 2) text == length text
+
+-- bits, which are not kept where their count is written too (2.4.8.4)
+abbrev pub bits : Bool → ℕ → Form
+bits true count = roll-Form Form-F.Odd
+bits false count = roll-Form (Form-F.Bits count)
+
+-- a token behind `#:` (2.4.8.5): its fault, if it is one, or else a symbol that is not kept
+abbrev pub uninterned : Token → Token
+uninterned (token.Bad kind) = token.Bad kind
+uninterned _ = token.Atom (roll-Form Form-F.Odd)
+
+-- what a token without escapes is, by what it is read as
+abbrev pub plain_word : Role → List ℕ → Token
+plain_word Free text = plain_token text
+plain_word (Radix base) text = if is_rational_in base text then number_of base text else token.Bad BadToken
+plain_word (Bits counted) text = if are_bits text then token.Atom (bits counted (length text)) else token.Bad BadToken
+plain_word Uninterned [] = token.Bad BadToken
+plain_word Uninterned (c ∷ cs) = uninterned (plain_token (c ∷ cs))
+
+-- what a token with escapes is, by what it is read as
+abbrev pub escaped_word : Role → List Sign → Token
+escaped_word Free signs = symbol_token signs
+escaped_word (Radix base) signs = token.Bad BadToken
+escaped_word (Bits counted) signs = token.Bad BadToken
+escaped_word Uninterned signs = uninterned (symbol_token signs)
+
+-- what a token is, by what it is read as
+unfoldable pub word : Role → List Sign → Token
+word role signs = if are_plain signs then plain_word role (plain_text signs) else escaped_word role signs

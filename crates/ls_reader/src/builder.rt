@@ -1,19 +1,20 @@
-ghost use Rattle.std.specs.Prelude.{◌≡◌, IfOk};
+ghost use Rattle.std.specs.Prelude.{◌≡◌};
 ghost use Rattle.ls_reader.specs.Machine.{Steps};
-ghost use Rattle.ls_reader.specs.Data as made;
+ghost use Rattle.ls_reader.specs.Features as features;
 ghost use Rattle.ls_reader.specs.Machine as spec;
 
-use crate::datum::{Datum, Form, Span};
+use crate::datum::Datum;
 use crate::fault::{Failure, FaultKind};
+use crate::feature::{holds, is_kept};
 use crate::frame::Frame;
+use crate::making::{datum, dotted, listed, mark_on, start_of, takes_dot};
 use crate::place::Place;
 use crate::stack::Stack;
-use crate::token::{Bracket, Mark, Token};
-use ls_object::Symbol;
-use sqlite_items::{Boxed, Items};
-use std::alloc::{AllocError, Global};
+use crate::token::Token;
+use sqlite_items::Items;
+use std::alloc::Global;
 
-/// How deep lists and marks may stand in one another.
+/// How deep constructs may stand in one another.
 const MAX_DEPTH: usize = 256;
 
 /// The data that are whole and stand in nothing, and the constructs that are begun.
@@ -21,51 +22,6 @@ const MAX_DEPTH: usize = 256;
 pub(crate) struct Builder {
     pub frames: Stack<Frame>,
     pub done: Items<Datum>,
-}
-
-fn datum(from: Place, end: u32, form: Form) -> Datum
-    ensures { result ≡ made.datum from end form }
-{
-    Datum {
-        span: Span {
-            start: from.byte,
-            end,
-            line: from.line,
-            column: from.column,
-        },
-        form,
-    }
-}
-
-/// What brackets with these data in them are.
-fn listed(alloc: Global, kind: Bracket, items: Items<Datum>) -> Result<Form, AllocError>
-    ensures { IfOk result (λ form. form ≡ made.listed kind items) }
-{
-    match kind {
-        Bracket::Round => {
-            if items.is_empty() {
-                return Ok(Form::Symbol(Symbol::nil(alloc)?));
-            }
-            Ok(Form::List(items))
-        }
-    }
-}
-
-/// What a mark and its datum are.
-fn marked(alloc: Global, kind: Mark, of: Datum) -> Result<Form, AllocError>
-    ensures { IfOk result (λ form. form ≡ made.marked kind of) }
-{
-    match kind {
-        Mark::Quote => Ok(Form::Quote(Boxed::new(alloc, of)?)),
-    }
-}
-
-/// The datum of a mark and its datum.
-fn mark_on(alloc: Global, kind: Mark, from: Place, of: Datum) -> Result<Datum, AllocError>
-    ensures { IfOk result (λ d. d ≡ made.mark_on kind from of) }
-{
-    let end = of.span.end;
-    Ok(datum(from, end, marked(alloc, kind, of)?))
 }
 
 impl Builder {
@@ -90,11 +46,48 @@ impl Builder {
                     self.frames.push(Frame::List(kind, from, items))?;
                     return Ok(());
                 }
+                Frame::Dot(from, items) => {
+                    self.frames.push(Frame::Tail(from, items, datum))?;
+                    return Ok(());
+                }
+                Frame::Tail(..) => {
+                    return Err(Failure::Fault(FaultKind::BadDot, start_of(&datum)));
+                }
                 Frame::Mark(kind, from) => datum = mark_on(alloc, kind, from, datum)?,
+                Frame::Feature(from, plus) => return self.choose(from, plus, &datum),
+                Frame::Chosen(_, true) => {}
+                Frame::Chosen(_, false) => return Ok(()),
             }
         }
         self.done.push(datum)?;
         Ok(())
+    }
+
+    /// The expression of a `#+` or `#-` is whole.
+    fn choose(&mut self, from: Place, plus: bool, expression: &Datum) -> Result<(), Failure>
+        ensures { Steps result self.new (spec.choose from plus (features.holds expression.now) self.old.frames self.old.done) }
+    {
+        match holds(expression) {
+            Some(holds) => {
+                self.frames.push(Frame::Chosen(from, is_kept(plus, holds)))?;
+                Ok(())
+            }
+            None => Err(Failure::Fault(FaultKind::BadToken, from)),
+        }
+    }
+
+    /// Whether a datum may begin: not as a second one behind a dot.
+    fn admits(&self) -> bool
+        ensures { result ≡ spec.admits self.now.frames }
+    {
+        for depth in 0..self.frames.len() {
+            match self.frames.get(depth) {
+                Some(Frame::Chosen(_, true)) => {}
+                Some(Frame::Tail(..)) => return false,
+                _ => return true,
+            }
+        }
+        true
     }
 
     /// A construct begins, unless it is too deep.
@@ -102,10 +95,30 @@ impl Builder {
         ensures { Steps result self.new (spec.begin from frame self.old) }
     {
         if self.frames.len() >= MAX_DEPTH {
-            return Err(Failure::Fault(FaultKind::NotBuilt, from));
+            return Err(Failure::Fault(FaultKind::TooDeep, from));
         }
         self.frames.push(frame)?;
         Ok(())
+    }
+
+    /// A construct that is a datum begins.
+    fn begin_datum(&mut self, from: Place, frame: Frame) -> Result<(), Failure>
+        ensures { Steps result self.new (spec.begin_datum from frame self.old) }
+    {
+        if !self.admits() {
+            return Err(Failure::Fault(FaultKind::BadDot, from));
+        }
+        self.begin(from, frame)
+    }
+
+    /// A datum of one token is whole.
+    fn put_atom(&mut self, alloc: Global, from: Place, datum: Datum) -> Result<(), Failure>
+        ensures { Steps result self.new (spec.put_atom from datum self.old) }
+    {
+        if !self.admits() {
+            return Err(Failure::Fault(FaultKind::BadDot, from));
+        }
+        self.put(alloc, datum)
     }
 
     /// A closing bracket ends the innermost construct.
@@ -117,7 +130,28 @@ impl Builder {
                 let form = listed(alloc, kind, items)?;
                 self.put(alloc, datum(from, to.byte, form))
             }
+            Some(Frame::Tail(from, items, last)) => {
+                let form = dotted(alloc, items, last)?;
+                self.put(alloc, datum(from, to.byte, form))
+            }
+            Some(Frame::Dot(..)) => Err(Failure::Fault(FaultKind::BadDot, at)),
             _ => Err(Failure::Fault(FaultKind::StrayClose, at)),
+        }
+    }
+
+    /// A dot stands in the innermost construct.
+    fn dot(&mut self, at: Place) -> Result<(), Failure>
+        ensures { Steps result self.new (spec.dot at self.old.frames self.old.done) }
+    {
+        match self.frames.pop() {
+            Some(Frame::List(kind, from, items)) => {
+                if !takes_dot(kind, &items) {
+                    return Err(Failure::Fault(FaultKind::BadDot, at));
+                }
+                self.frames.push(Frame::Dot(from, items))?;
+                Ok(())
+            }
+            _ => Err(Failure::Fault(FaultKind::BadDot, at)),
         }
     }
 
@@ -133,10 +167,12 @@ impl Builder {
     {
         match token {
             Token::Gap => Ok(()),
-            Token::Open(kind) => self.begin(from, Frame::List(kind, from, Items::new(alloc))),
+            Token::Open(kind) => self.begin_datum(from, Frame::List(kind, from, Items::new(alloc))),
             Token::Close => self.close(alloc, from, to),
-            Token::Mark(kind) => self.begin(from, Frame::Mark(kind, from)),
-            Token::Atom(form) => self.put(alloc, datum(from, to.byte, form)),
+            Token::Dot => self.dot(from),
+            Token::Mark(kind) => self.begin_datum(from, Frame::Mark(kind, from)),
+            Token::Feature(plus) => self.begin(from, Frame::Feature(from, plus)),
+            Token::Atom(form) => self.put_atom(alloc, from, datum(from, to.byte, form)),
             Token::Bad(kind) => Err(Failure::Fault(kind, from)),
         }
     }
@@ -148,7 +184,14 @@ impl Builder {
         let Builder { mut frames, done } = self;
         match frames.pop() {
             None => Ok(done),
-            Some(Frame::List(_, from, _) | Frame::Mark(_, from)) => Err(from),
+            Some(
+                Frame::List(_, from, _)
+                | Frame::Dot(from, _)
+                | Frame::Tail(from, _, _)
+                | Frame::Mark(_, from)
+                | Frame::Feature(from, _)
+                | Frame::Chosen(from, _),
+            ) => Err(from),
         }
     }
 }

@@ -1,31 +1,27 @@
-ghost use Rattle.std.specs.Prelude.{◌≡◌, ◌≤◌, ◌∷◌, map, length, IfOk};
-ghost use Rattle.std.specs.Char.{to_ascii_uppercase};
-ghost use Rattle.ls_reader.specs.Characters as spec;
-ghost use Rattle.ls_reader.specs.Tokens.{token_of};
-ghost use Rattle.ls_reader.specs.Lexing.{Gives, token_at, lexeme};
+ghost use Rattle.std.specs.Prelude.{◌≡◌, ◌≤◌, ◌∷◌, length};
+ghost use Rattle.ls_reader.specs.Characters as characters;
+ghost use Rattle.ls_reader.specs.Lexing as spec;
+ghost use Rattle.ls_reader.specs.Lexing.{Gives};
+ghost use Rattle.ls_reader.specs.Macros as macros;
 
+use crate::character::{Syntax, is_blank, syntax_of};
+use crate::comment::line_len;
 use crate::datum::Form;
 use crate::fault::{FaultKind, Stop};
-use crate::number::{is_float, is_integer, literal};
+use crate::sharpsign::sharpsign;
+use crate::string::string_at;
 use crate::token::{Bracket, Mark, Token};
-use ls_object::{Symbol, Text};
-use std::alloc::{AllocError, Global};
+use crate::word::{Role, word_at};
+use std::alloc::Global;
 
-/// Whether a character is a constituent that this reader takes (2.1.4).
-pub(crate) fn is_constituent(c: char) -> bool
-    ensures { result ≡ spec.is_constituent c }
-{
-    matches!(c, 'a'..='z' | 'A'..='Z' | '0'..='9' | '+' | '-' | '*')
-}
-
-/// How many constituents come first.
-fn constituents_len(text: &[char]) -> usize
-    ensures value { result ≡ spec.run_len spec.is_constituent text.now }
+/// How many characters of whitespace come first.
+fn blanks_len(text: &[char]) -> usize
+    ensures value { result ≡ characters.run_len characters.is_blank text.now }
     ensures within { result ≤ length text.now }
 {
     let mut n = 0;
     for c in text {
-        if !is_constituent(*c) {
+        if !is_blank(*c) {
             return n;
         }
         n += 1;
@@ -33,69 +29,93 @@ fn constituents_len(text: &[char]) -> usize
     n
 }
 
-/// The text in upper case.
-fn upper_case(alloc: Global, text: &[char]) -> Result<Text, AllocError>
-    ensures { IfOk result (λ t. t ≡ map to_ascii_uppercase text.now) }
+/// What stands behind a comma in a mark of two characters.
+fn is_splice(c: char) -> bool
+    ensures { result ≡ macros.is_splice c }
 {
-    let mut name = Text::of(alloc, "")?;
-    for c in text {
-        name.push(c.to_ascii_uppercase())?;
-    }
-    Ok(name)
+    c == '@' || c == '.'
 }
 
-/// What a token is (2.3).
-#[tactic(auto, unfolding(crate::specs::Tokens::token_of))]
-fn token_of(alloc: Global, text: &[char]) -> Result<Token, AllocError>
-    ensures { IfOk result (λ t. t ≡ token_of text.now) }
-{
-    if is_integer(text) {
-        return Ok(Token::Atom(Form::Number(literal(text))));
-    }
-    if is_float(text) {
-        return Ok(Token::Bad(FaultKind::NotBuilt));
-    }
-    let name = upper_case(alloc, text)?;
-    Ok(Token::Atom(Form::Symbol(Symbol::of_common_lisp(alloc, name)?)))
-}
-
-/// The constituents that come first as a token, and what follows.
-fn token_at(alloc: Global, text: &[char]) -> Result<(Token, &[char]), AllocError>
-    ensures { IfOk result (λ x. (x.0, x.1.now) ≡ token_at text.now) }
-{
-    let (token, rest) = text.split_at(constituents_len(text));
-    Ok((token_of(alloc, token)?, rest))
-}
-
-/// The lexeme at the front of a text, and what follows.
-pub(crate) fn lexeme(alloc: Global, text: &[char]) -> Result<(Token, &[char]), Stop>
-    ensures { Gives (λ x. (x.0, x.1.now)) result (lexeme text.now) }
+/// The mark that a comma before the text begins, and what follows (2.4.7).
+fn comma(text: &[char]) -> (Token, &[char])
+    ensures { (result.0, result.1.now) ≡ spec.comma text.now }
 {
     match text {
-        [] => Err(Stop::Fault(FaultKind::NotBuilt)),
-        [first, rest @ ..] => lexeme_of(alloc, *first, text, rest),
+        [first, rest @ ..] if is_splice(*first) => (Token::Mark(Mark::Splice), rest),
+        _ => (Token::Mark(Mark::Comma), text),
     }
 }
 
-/// The lexeme that begins with a character.
-fn lexeme_of<'a>(
+/// The token that a bracket, a quote or a backquote is.
+fn sign_token(c: char) -> Option<Token>
+    ensures { result ≡ macros.sign_token c }
+{
+    match c {
+        '(' => Some(Token::Open(Bracket::Round)),
+        ')' => Some(Token::Close),
+        '\'' => Some(Token::Mark(Mark::Quote)),
+        '`' => Some(Token::Mark(Mark::Back)),
+        _ => None,
+    }
+}
+
+/// What a comma, a semicolon or a double quote begins, and what follows.
+fn other_macro(alloc: Global, c: char, text: &[char]) -> Result<(Token, &[char]), Stop>
+    ensures { Gives (λ x. (x.0, x.1.now)) result (spec.other_macro c text.now) }
+{
+    if c == ',' {
+        return Ok(comma(text));
+    }
+    if c == ';' {
+        let (_, rest) = text.split_at(line_len(text));
+        return Ok((Token::Gap, rest));
+    }
+    let (content, rest) = string_at(alloc, text)?;
+    Ok((Token::Atom(Form::Str(content)), rest))
+}
+
+/// What a macro character begins that ends the token before it, and what follows (2.4).
+fn macro_at(alloc: Global, c: char, text: &[char]) -> Result<(Token, &[char]), Stop>
+    ensures { Gives (λ x. (x.0, x.1.now)) result (spec.macro_at (macros.sign_token c) c text.now) }
+{
+    match sign_token(c) {
+        Some(token) => Ok((token, text)),
+        None => other_macro(alloc, c, text),
+    }
+}
+
+/// The lexeme that begins with a character, and what follows.
+fn lexeme_by<'a>(
     alloc: Global,
     first: char,
     text: &'a [char],
     rest: &'a [char],
 ) -> Result<(Token, &'a [char]), Stop>
     requires { text.now ≡ first ∷ rest.now }
-    ensures { Gives (λ x. (x.0, x.1.now)) result (lexeme (first ∷ rest.now)) }
+    ensures { Gives (λ x. (x.0, x.1.now)) result (spec.lexeme_by (characters.syntax_of first) first rest.now) }
 {
-    match first {
-        '\n' | ' ' => Ok((Token::Gap, rest)),
-        '(' => Ok((Token::Open(Bracket::Round), rest)),
-        ')' => Ok((Token::Close, rest)),
-        '\'' => Ok((Token::Mark(Mark::Quote), rest)),
-        _ if is_constituent(first) => {
-            let (token, rest) = token_at(alloc, text)?;
-            Ok((token, rest))
+    match syntax_of(first) {
+        Syntax::Whitespace => {
+            let (_, rest) = rest.split_at(blanks_len(rest));
+            Ok((Token::Gap, rest))
         }
-        _ => Err(Stop::Fault(FaultKind::NotBuilt)),
+        Syntax::Invalid => Err(Stop::Fault(FaultKind::BadToken, 0)),
+        Syntax::Terminating => macro_at(alloc, first, rest),
+        Syntax::Sharp => sharpsign(alloc, rest),
+        Syntax::Constituent | Syntax::SingleEscape | Syntax::MultipleEscape => {
+            word_at(alloc, Role::Free, text)
+        }
+    }
+}
+
+/// The lexeme at the front of a text, and what follows (2.2). A fault comes with the count of characters before
+/// its place.
+#[tactic(auto, unfolding(crate::specs::Lexing::lexeme))]
+pub(crate) fn lexeme(alloc: Global, text: &[char]) -> Result<(Token, &[char]), Stop>
+    ensures { Gives (λ x. (x.0, x.1.now)) result (spec.lexeme text.now) }
+{
+    match text {
+        [] => Err(Stop::Fault(FaultKind::Unclosed, 0)),
+        [first, rest @ ..] => lexeme_by(alloc, *first, text, rest),
     }
 }

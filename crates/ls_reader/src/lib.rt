@@ -2,16 +2,26 @@
 #![tactic(auto)]
 
 mod builder;
+mod character;
+mod charname;
+mod comment;
+mod copy;
 mod datum;
 mod fault;
+mod feature;
 mod frame;
-mod front;
 mod lexeme;
+mod making;
+mod name;
 mod number;
 mod place;
 mod reader;
+mod sharpsign;
+mod sign;
 mod stack;
+mod string;
 mod token;
+mod word;
 
 pub use datum::{Datum, FloatFormat, Form, Literal, Span};
 pub use fault::ReadError;

@@ -1,39 +1,55 @@
-ghost use Rattle.std.specs.Prelude.{◌≡◌, ◌+◌, ◌-◌, ◌^◌, ◌<◌, ◌≤◌, length, min};
-ghost use Rattle.ls_reader.specs.Characters as spec;
-ghost use Rattle.ls_reader.specs.Numbers.{unsigned, is_negative, are_digits, is_exponent, is_integer, have_exponent, is_float, decimal, literal_of, magnitude};
+ghost use Rattle.std.specs.Prelude.{◌≡◌, ◌+◌, ◌^◌, ◌≤◌, length, min, suc};
+ghost use Rattle.std.proofs.Math.Nat.{zero-lt-suc};
+ghost use Rattle.ls_reader.specs.Characters as characters;
+ghost use Rattle.ls_reader.specs.Fractions.{signed, literal_of};
+ghost use Rattle.ls_reader.specs.Numbers as spec;
+ghost use Rattle.ls_reader.specs.Lexing.{may_be_number};
+ghost use Rattle.ls_reader.specs.Tokens.{are_bits};
 
-use crate::datum::Literal;
+use crate::datum::{FloatFormat, Form, Literal};
+use crate::fault::FaultKind;
+use crate::token::Token;
 use ls_object::Rat;
 
-/// The greatest value of an integer that is kept.
-const MAX_VALUE: u128 = 1 << 64;
+/// The greatest numerator that is kept, in absolute value.
+const MAX_NUMERATOR: u128 = 1 << 64;
 
-fn is_digit(c: char) -> bool
-    ensures { result ≡ spec.is_digit c }
-{
-    c.is_ascii_digit()
-}
+/// The greatest denominator that is kept.
+const MAX_DENOMINATOR: u128 = 1 << 60;
 
 fn is_sign(c: char) -> bool
-    ensures { result ≡ spec.is_sign c }
+    ensures { result ≡ characters.is_sign c }
 {
     c == '+' || c == '-'
 }
 
-fn is_exponent_marker(c: char) -> bool
-    ensures { result ≡ spec.is_exponent_marker c }
+/// The weight of a digit in a base of at most 16; 16 for a character that is no digit.
+fn weight(c: char) -> u32
+    ensures value { result ≡ spec.weight c }
+    ensures small { result ≤ 16 }
 {
-    matches!(c, 'e' | 's' | 'f' | 'd' | 'l' | 'E' | 'S' | 'F' | 'D' | 'L')
+    match c {
+        '0'..='9' => c as u32 - 48,
+        'A'..='F' => c as u32 - 55,
+        'a'..='f' => c as u32 - 87,
+        _ => 16,
+    }
+}
+
+fn is_digit_in(base: u32, c: char) -> bool
+    ensures { result ≡ spec.is_digit_in base c }
+{
+    weight(c) < base
 }
 
 /// How many digits come first.
-fn digits_len(text: &[char]) -> usize
-    ensures value { result ≡ spec.run_len spec.is_digit text.now }
+fn digits_len(base: u32, text: &[char]) -> usize
+    ensures value { result ≡ spec.digits_len base text.now }
     ensures within { result ≤ length text.now }
 {
     let mut n = 0;
     for c in text {
-        if !is_digit(*c) {
+        if !is_digit_in(base, *c) {
             return n;
         }
         n += 1;
@@ -41,9 +57,37 @@ fn digits_len(text: &[char]) -> usize
     n
 }
 
+fn have_digits(base: u32, text: &[char]) -> bool
+    ensures { result ≡ spec.have_digits base text.now }
+{
+    0 < digits_len(base, text)
+}
+
+/// What follows the digits that come first.
+fn behind_digits(base: u32, text: &[char]) -> &[char]
+    ensures { result.now ≡ spec.behind_digits base text.now }
+{
+    let (_, rest) = text.split_at(digits_len(base, text));
+    rest
+}
+
+/// Whether a text is digits alone, and not empty.
+pub(crate) fn are_digits(base: u32, text: &[char]) -> bool
+    ensures { result ≡ spec.are_digits base text.now }
+{
+    have_digits(base, text) && digits_len(base, text) == text.len()
+}
+
+/// Whether a text is the digits 0 and 1 alone, or empty (2.4.8.4).
+pub(crate) fn are_bits(text: &[char]) -> bool
+    ensures { result ≡ are_bits text.now }
+{
+    digits_len(2, text) == text.len()
+}
+
 /// The token without its sign.
 fn unsigned(text: &[char]) -> &[char]
-    ensures { result.now ≡ unsigned text.now }
+    ensures { result.now ≡ spec.unsigned text.now }
 {
     match text {
         [first, rest @ ..] if is_sign(*first) => rest,
@@ -52,7 +96,7 @@ fn unsigned(text: &[char]) -> &[char]
 }
 
 fn is_negative(text: &[char]) -> bool
-    ensures { result ≡ is_negative text.now }
+    ensures { result ≡ spec.is_negative text.now }
 {
     match text {
         [first, ..] => *first == '-',
@@ -60,80 +104,206 @@ fn is_negative(text: &[char]) -> bool
     }
 }
 
-fn are_digits(text: &[char]) -> bool
-    ensures { result ≡ are_digits text.now }
-{
-    let n = digits_len(text);
-    0 < n && n == text.len()
-}
-
-fn is_exponent(text: &[char]) -> bool
-    ensures { result ≡ is_exponent text.now }
+/// Whether a text is a slash and digits.
+fn is_denominator(base: u32, text: &[char]) -> bool
+    ensures { result ≡ spec.is_denominator base text.now }
 {
     match text {
-        [marker, rest @ ..] => is_exponent_marker(*marker) && are_digits(unsigned(rest)),
+        [first, rest @ ..] => *first == '/' && are_digits(base, rest),
         [] => false,
     }
 }
 
-/// Whether a token is an integer (2.3.1.1).
-pub(crate) fn is_integer(text: &[char]) -> bool
-    ensures { result ≡ is_integer text.now }
+fn ends_rational(base: u32, text: &[char]) -> bool
+    ensures { result ≡ spec.ends_rational base text.now }
 {
-    are_digits(unsigned(text))
+    text.is_empty() || is_denominator(base, text)
 }
 
-/// Whether digits come first, and an exponent behind them.
-fn have_exponent(text: &[char]) -> bool
-    ensures { result ≡ have_exponent text.now }
+/// Whether a token is an integer or a ratio in a base (2.4.8.7 to 2.4.8.9).
+pub(crate) fn is_rational_in(base: u32, text: &[char]) -> bool
+    ensures { result ≡ spec.is_rational_in base text.now }
 {
-    let n = digits_len(text);
-    let (_, rest) = text.split_at(n);
-    0 < n && is_exponent(rest)
+    let digits = unsigned(text);
+    have_digits(base, digits) && ends_rational(base, behind_digits(base, digits))
 }
 
-/// Whether a token is a float without a point (2.3.2.2).
-pub(crate) fn is_float(text: &[char]) -> bool
-    ensures { result ≡ is_float text.now }
+/// Whether a token begins as a number, a dot or dots do; an empty one counts as such too.
+pub(crate) fn may_be_number(text: &[char]) -> bool
+    ensures { result ≡ may_be_number text.now }
 {
-    have_exponent(unsigned(text))
+    match text {
+        [first, ..] => is_digit_in(10, *first) || is_sign(*first) || *first == '.',
+        [] => true,
+    }
 }
 
-/// The value of a digit.
-fn digit_value(c: char) -> u128
-    ensures value { result ≡ c - 48 }
-    ensures small { result < 2 ^ 32 }
+fn is_point(text: &[char]) -> bool
+    ensures { result ≡ spec.is_point text.now }
 {
-    u128::from((c as u32).saturating_sub(48))
+    match text {
+        [only] => *only == '.',
+        _ => false,
+    }
+}
+
+/// Whether a token is an integer or a ratio (2.3.2.1).
+pub(crate) fn is_rational(text: &[char]) -> bool
+    ensures { result ≡ spec.is_rational text.now }
+{
+    let digits = unsigned(text);
+    if !have_digits(10, digits) {
+        return false;
+    }
+    let rest = behind_digits(10, digits);
+    is_point(rest) || ends_rational(10, rest)
 }
 
 /// The value of digits, or the least number that is not kept, where that is less.
-fn capped_value(digits: &[char]) -> u128
-    ensures { result ≡ min (decimal 0 digits.now) (2 ^ 64 + 1) }
+pub(crate) fn capped_value(base: u32, digits: &[char]) -> u128
+    ensures { result ≡ min (spec.value base digits.now) (2 ^ 64 + 1) }
 {
     let mut value: u128 = 0;
     for c in digits {
-        value = (value * 10 + digit_value(*c)).min(MAX_VALUE + 1);
+        value = (value * u128::from(base) + u128::from(weight(*c))).min(MAX_NUMERATOR + 1);
     }
     value
 }
 
-fn literal_of(negative: bool, value: u128) -> Literal
-    requires { value ≤ 2 ^ 64 + 1 }
-    ensures { result ≡ literal_of negative value }
+/// The value of what stands behind a slash, capped; 1 where there is none.
+fn capped_denominator(base: u32, text: &[char]) -> u128
+    ensures { result ≡ min (spec.denominator base text.now) (2 ^ 64 + 1) }
 {
-    if value > MAX_VALUE {
-        Literal::Wide
-    } else if negative {
-        Literal::Value(Rat::integer(-(value as i128)))
-    } else {
-        Literal::Value(Rat::integer(value as i128))
+    match text {
+        [first, rest @ ..] if *first == '/' => capped_value(base, rest),
+        _ => 1,
     }
 }
 
-/// The literal of an integer token.
-pub(crate) fn literal(text: &[char]) -> Literal
-    ensures { result ≡ literal_of (is_negative text.now) (magnitude text.now) }
+/// The number of this absolute value.
+fn signed(negative: bool, size: u128) -> i128
+    requires { size ≤ 2 ^ 64 }
+    ensures { result ≡ signed negative size }
 {
-    literal_of(is_negative(text), capped_value(unsigned(text)))
+    if negative {
+        -(size as i128)
+    } else {
+        size as i128
+    }
+}
+
+/// The literal of a fraction, of which the denominator is one more than a number.
+fn literal(negative: bool, size: u128, below: u128) -> Literal
+    requires size { size ≤ 2 ^ 64 + 1 }
+    requires below { below ≤ 2 ^ 64 }
+    ensures { result ≡ literal_of negative size (suc below) (zero-lt-suc below) }
+{
+    let den = below + 1;
+    if size > MAX_NUMERATOR || den > MAX_DENOMINATOR {
+        return Literal::Wide;
+    }
+    match Rat::new(signed(negative, size), den) {
+        Some(value) => Literal::Value(value),
+        None => Literal::Wide,
+    }
+}
+
+/// The token of a number.
+fn number(literal: Literal) -> Token
+    ensures { result ≡ spec.number literal }
+{
+    Token::Atom(Form::Number(literal))
+}
+
+/// The token of a fraction; a denominator of 0 is a fault.
+fn fraction(negative: bool, size: u128, den: u128) -> Token
+    requires size { size ≤ 2 ^ 64 + 1 }
+    requires den { den ≤ 2 ^ 64 + 1 }
+    ensures { result ≡ spec.fraction negative size den }
+{
+    if den == 0 {
+        return Token::Bad(FaultKind::ZeroDenominator);
+    }
+    number(literal(negative, size, den - 1))
+}
+
+/// The number that an integer or a ratio writes, in a base.
+pub(crate) fn number_of(base: u32, text: &[char]) -> Token
+    ensures { result ≡ spec.number_of base text.now }
+{
+    let digits = unsigned(text);
+    let (whole, rest) = digits.split_at(digits_len(base, digits));
+    fraction(
+        is_negative(text),
+        capped_value(base, whole),
+        capped_denominator(base, rest),
+    )
+}
+
+/// The format that the marker of an exponent asks for.
+fn marker_format(c: char) -> Option<FloatFormat>
+    ensures { result ≡ spec.marker_format c }
+{
+    match c {
+        'e' | 's' | 'f' | 'E' | 'S' | 'F' => Some(FloatFormat::Single),
+        'd' | 'l' | 'D' | 'L' => Some(FloatFormat::Double),
+        _ => None,
+    }
+}
+
+/// The format that an exponent asks for, where the text is one.
+fn exponent_format(text: &[char]) -> Option<FloatFormat>
+    ensures { result ≡ spec.exponent_format text.now }
+{
+    match text {
+        [marker, rest @ ..] if are_digits(10, unsigned(rest)) => marker_format(*marker),
+        _ => None,
+    }
+}
+
+fn optional_exponent(text: &[char]) -> Option<FloatFormat>
+    ensures { result ≡ spec.optional_exponent text.now }
+{
+    if text.is_empty() {
+        return Some(FloatFormat::Single);
+    }
+    exponent_format(text)
+}
+
+/// The format of a point, at least one digit, and an optional exponent.
+fn fraction_format(text: &[char]) -> Option<FloatFormat>
+    ensures { result ≡ spec.fraction_format text.now }
+{
+    match text {
+        [first, rest @ ..] if *first == '.' && have_digits(10, rest) => {
+            optional_exponent(behind_digits(10, rest))
+        }
+        _ => None,
+    }
+}
+
+/// The format of perhaps a point with digits or none after it, and an exponent.
+fn scale_format(text: &[char]) -> Option<FloatFormat>
+    ensures { result ≡ spec.scale_format text.now }
+{
+    match text {
+        [first, rest @ ..] if *first == '.' => exponent_format(behind_digits(10, rest)),
+        _ => exponent_format(text),
+    }
+}
+
+/// The format of a float, where a token is one (2.3.2.2).
+pub(crate) fn float_of(text: &[char]) -> Option<FloatFormat>
+    ensures { result ≡ spec.float_of text.now }
+{
+    let digits = unsigned(text);
+    let rest = behind_digits(10, digits);
+    if let Some(format) = fraction_format(rest) {
+        return Some(format);
+    }
+    if have_digits(10, digits) {
+        scale_format(rest)
+    } else {
+        None
+    }
 }

@@ -1,19 +1,23 @@
-ghost use Rattle.std.specs.Prelude.{ℕ, List, ◌≡◌, ◌≤◌, ◌<◌, length, take, IfOk, IfErr, IsErr};
-ghost use Rattle.ls_reader.specs.Characters.{is_accepted, run_len};
+ghost use Rattle.std.specs.Prelude.{ℕ, List, ◌≡◌, ◌≤◌, length, IfOk, IfErr};
+ghost use Rattle.std.specs.Str.{chars, IsUtf8, IsValidUpTo};
+ghost use Rattle.std.specs.Str.Lossy.{utf8_valid_len};
 ghost use Rattle.ls_reader.specs.Forms.{Forms, FormsIn};
-ghost use Rattle.ls_reader.specs.Answers.{FailsIn, FailsAt, FailsBefore, past, IsFaultOf, ReadsAs, IsRefusal};
-ghost use Rattle.ls_reader.specs.Running.{reading, advance, Turns, IsSmall, failure_at};
+ghost use Rattle.ls_reader.specs.Faults.{Fault};
+ghost use Rattle.ls_reader.specs.Answers.{FailsIn, FailsAt, IsFaultOf, ReadsAs, RefusesAs};
+ghost use Rattle.ls_reader.specs.Running.{reading, advance, Turns, IsSmall, IsWithin, failure_at};
 ghost use Rattle.ls_reader.specs.declared.datum.Datum.{Datum};
+ghost use Rattle.ls_reader.specs.declared.place.Place.{Place};
+ghost use Rattle.ls_reader.specs.declared.fault.FaultKind.{FaultKind};
 ghost use Rattle.ls_reader.specs.declared.reader.TheConstants.{MAX_LEN};
 
 use crate::builder::Builder;
 use crate::datum::Datum;
 use crate::fault::{Failure, FaultKind, ReadError, Stop};
-use crate::front::{accepted_len, characters, whole_of};
 use crate::lexeme::lexeme;
 use crate::place::Place;
 use sqlite_items::Items;
-use std::alloc::Global;
+use std::alloc::{AllocError, Global};
+use std::str;
 
 /// The greatest length of a text, in bytes.
 pub const MAX_LEN: usize = 16_777_216;
@@ -26,12 +30,18 @@ pub(crate) struct Reader<'a> {
     builder: Builder,
 }
 
-fn failure_at(stop: Stop, place: Place) -> Failure
-    ensures { result ≡ failure_at stop place }
+/// The failure at a place in a text, from what stopped the lexer at its front.
+fn failure_at(stop: Stop, from: Place, text: &[char]) -> Failure
+    requires small { IsSmall from text.now }
+    requires within { IsWithin stop text.now }
+    ensures { result ≡ failure_at stop from text.now }
 {
     match stop {
         Stop::Memory => Failure::Memory,
-        Stop::Fault(kind) => Failure::Fault(kind, place),
+        Stop::Fault(kind, before) => {
+            let (front, _) = text.split_at(before);
+            Failure::Fault(kind, from.after_all(front))
+        }
     }
 }
 
@@ -45,7 +55,7 @@ impl<'a> Reader<'a> {
         let text = self.rest;
         let (token, rest) = match lexeme(alloc, text) {
             Ok(found) => found,
-            Err(stop) => return Err(failure_at(stop, from)),
+            Err(stop) => return Err(failure_at(stop, from, text)),
         };
         let (used, _) = text.split_at(text.len() - rest.len());
         let to = from.after_all(used);
@@ -80,25 +90,28 @@ fn read_chars(alloc: Global, text: &[char]) -> Result<Items<Datum>, Failure>
     }
 }
 
-/// The failure of a front, or of the place behind the text, where it is only that the front is not ended.
-fn past(failure: Failure, at: Place) -> Failure
-    ensures { result ≡ past failure at }
+/// The characters of a text.
+fn decode(alloc: Global, text: &str) -> Result<Vec<char>, AllocError>
+    ensures value { IfOk result (λ v. v.items ≡ chars text.now) }
+    ensures short { IfOk result (λ v. length v.items ≤ length text.now) }
 {
-    match failure {
-        Failure::Fault(FaultKind::Unclosed, _) => Failure::Fault(FaultKind::NotBuilt, at),
-        failure => failure,
-    }
+    text.chars().collect(alloc)
 }
 
-/// The fault of a text that a byte follows which the reader does not take.
-fn fault_before(alloc: Global, text: &[char], next: u8) -> Failure
-    requires { length text.now ≤ MAX_LEN }
-    ensures { FailsBefore text.now next result }
+/// The fault of bytes of which a front is UTF-8, and no longer one.
+fn not_utf8(alloc: Global, bytes: &[u8], valid: usize) -> Failure
+    requires valid { valid ≡ utf8_valid_len bytes.now }
+    requires front { IsValidUpTo bytes.now valid }
+    requires short { length bytes.now ≤ MAX_LEN }
+    requires not_utf8 { IsUtf8 bytes.now → ⊥ }
+    ensures { FailsAt bytes.now result }
 {
-    let at = Place::start().after_all(text);
-    match read_chars(alloc, whole_of(text, next)) {
-        Ok(_) => Failure::Fault(FaultKind::NotBuilt, at),
-        Err(failure) => past(failure, at),
+    match str::from_utf8(&bytes[..valid]) {
+        Ok(text) => match decode(alloc, text) {
+            Ok(text) => Failure::Fault(FaultKind::NotUtf8, Place::start().after_all(&text)),
+            Err(_) => Failure::Memory,
+        },
+        Err(_) => unreachable!(),
     }
 }
 
@@ -108,38 +121,41 @@ fn read(alloc: Global, bytes: &[u8]) -> Result<Items<Datum>, Failure>
     ensures ok { IfOk result (Forms bytes.now) }
     ensures err { IfErr result (FailsAt bytes.now) }
 {
-    let built = accepted_len(bytes);
-    let text = characters(alloc, &bytes[..built])?;
-    match bytes.get(built) {
-        None => read_chars(alloc, &text),
-        Some(next) => Err(fault_before(alloc, &text, *next)),
+    match str::from_utf8(bytes) {
+        Ok(text) => {
+            let text = decode(alloc, text)?;
+            read_chars(alloc, &text)
+        }
+        Err(e) => Err(not_utf8(alloc, bytes, e.valid_up_to())),
     }
 }
 
 /// The data of a text in UTF-8 (2.2), or its first fault from left to right.
 ///
-/// The reader takes newlines, spaces, parentheses, quotes, and tokens of the ASCII letters and digits and the
-/// characters `+`, `-` and `*` that are integers (2.3.1.1) or symbols (2.3.4). A list within lists, or a quote, may
-/// be at most 256 deep. Fails with
-/// - `StrayClose` at a closing parenthesis that ends no list,
-/// - `Unclosed` at the start of the innermost list or quote where the text ends within it,
-/// - `NotBuilt` at a float, at a parenthesis or a quote that would be 257 deep, and at a byte that is not taken,
-/// - `Memory` where there is none for the data.
+/// A line is 1 plus the count of newlines before, and a column 1 plus the count of characters since the last newline.
+/// Lists, vectors, prefixes and `#` constructs that hold a datum may be 256 deep in one another. Fails with the fault
+/// that is met first, each at the place that `ReadError` states, and with `Memory` where there is none for the data.
 pub fn read_text(alloc: Global, bytes: &[u8]) -> Result<Items<Datum>, ReadError>
     requires { length bytes.now ≤ MAX_LEN }
     // What is read is what the text says.
     ensures ok { IfOk result (Forms bytes.now) }
     // What the text says is read, unless memory runs out.
     ensures reads { (fs : List Datum) → Forms bytes.now fs → ReadsAs fs result }
-    // What is refused says nothing.
-    ensures refused { IfErr result (IsRefusal bytes.now) }
-    // The fault is the first one of the text, at its place.
+    // The fault that is answered is that of the text, at its place.
     ensures fault { IfErr result (IsFaultOf bytes.now) }
+    // The fault that the text has is answered, unless memory runs out.
+    ensures refuses { (k : FaultKind) (place : Place) → Fault bytes.now k place → RefusesAs k place result }
 {
-    Ok(read(alloc, bytes)?)
+    match read(alloc, bytes) {
+        Ok(forms) => Ok(forms),
+        Err(failure) => Err(ReadError::from(failure)),
+    }
 }
 
-/// The law that a text is at most one list of forms. It is one about the definitions, so there is nothing to do.
+/// The law that a text is at most one list of forms, has at most one fault, and never both. It is one about the
+/// definitions, so there is nothing to do.
 pub fn one_answer()
-    ensures { (bytes : List ℕ) (fs gs : List Datum) → Forms bytes fs → Forms bytes gs → fs ≡ gs }
+    ensures forms { (bytes : List ℕ) (fs gs : List Datum) → Forms bytes fs → Forms bytes gs → fs ≡ gs }
+    ensures fault { (bytes : List ℕ) (k l : FaultKind) (p q : Place) → Fault bytes k p → Fault bytes l q → (k ≡ l) × (p ≡ q) }
+    ensures apart { (bytes : List ℕ) (fs : List Datum) (k : FaultKind) (p : Place) → Forms bytes fs → Fault bytes k p → ⊥ }
 {}

@@ -1,6 +1,0 @@
-use Rattle.std.proofs.Common.{◌≡◌, map, take}
-use Rattle.std.specs.Char.{to_ascii_uppercase}
-use Rattle.ls_reader.proofs.lexeme.upper_case.Given as goal
-
-abbrev pub invariant-loop-c : goal.invariant-loop-c
-invariant-loop-c l = l.name ≡ map to_ascii_uppercase (take l.c-index l.text)

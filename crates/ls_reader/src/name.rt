@@ -1,0 +1,183 @@
+ghost use Rattle.std.specs.Prelude.{◌≡◌, ◌≤◌, length, map, IfOk, codes};
+ghost use Rattle.std.specs.Char.{to_ascii_uppercase};
+ghost use Rattle.ls_reader.specs.Characters.{run_len};
+ghost use Rattle.ls_reader.specs.Names as spec;
+ghost use Rattle.ls_reader.specs.declared.sign.Sign.TheVariants.{Plain};
+
+use crate::datum::Form;
+use crate::fault::FaultKind;
+use crate::sign::Sign;
+use crate::token::Token;
+use ls_object::{Symbol, Text};
+use std::alloc::{AllocError, Global};
+
+/// The text in upper case.
+pub(crate) fn upper_case(alloc: Global, text: &[char]) -> Result<Text, AllocError>
+    ensures { IfOk result (λ t. t ≡ map to_ascii_uppercase text.now) }
+{
+    let mut name = Text::of_ascii(alloc, "")?;
+    for c in text {
+        name.push(c.to_ascii_uppercase())?;
+    }
+    Ok(name)
+}
+
+/// The name that signs make.
+fn name_of(alloc: Global, signs: &[Sign]) -> Result<Text, AllocError>
+    ensures { IfOk result (λ t. t ≡ spec.name_of signs.now) }
+{
+    let mut name = Text::of_ascii(alloc, "")?;
+    for sign in signs {
+        match *sign {
+            Sign::Plain(c) => name.push(c.to_ascii_uppercase())?,
+            Sign::Exact(c) => name.push(c)?,
+            Sign::Escape => {}
+        }
+    }
+    Ok(name)
+}
+
+/// Whether a sign is no package marker.
+fn is_no_marker(sign: Sign) -> bool
+    ensures { result ≡ spec.is_no_marker sign }
+{
+    match sign {
+        Sign::Plain(c) => c != ':',
+        Sign::Exact(_) | Sign::Escape => true,
+    }
+}
+
+/// How many signs stand before the first package marker.
+fn marker_at(signs: &[Sign]) -> usize
+    ensures value { result ≡ spec.marker_at signs.now }
+    ensures within { result ≤ length signs.now }
+{
+    let mut n = 0;
+    for sign in signs {
+        if !is_no_marker(*sign) {
+            return n;
+        }
+        n += 1;
+    }
+    n
+}
+
+/// Whether signs can be a symbol's name behind a package marker.
+fn is_name(signs: &[Sign]) -> bool
+    ensures { result ≡ spec.is_name signs.now }
+{
+    !signs.is_empty() && marker_at(signs) == signs.len()
+}
+
+/// The package that a name of one stands for.
+fn package_of(alloc: Global, name: Text) -> Result<Text, AllocError>
+    ensures { IfOk result (λ t. t ≡ spec.package_of name) }
+{
+    if name.is_ascii_text("CL")
+        || name.is_ascii_text("CL-USER")
+        || name.is_ascii_text("COMMON-LISP-USER")
+    {
+        Text::of_ascii(alloc, "COMMON-LISP")
+    } else {
+        Ok(name)
+    }
+}
+
+/// The symbol of a package with the name that signs make, where they can be one.
+fn symbol_in(alloc: Global, home: Text, signs: &[Sign]) -> Result<Token, AllocError>
+    ensures { IfOk result (λ t. t ≡ spec.symbol_in home signs.now) }
+{
+    if !is_name(signs) {
+        return Ok(Token::Bad(FaultKind::BadToken));
+    }
+    let name = name_of(alloc, signs)?;
+    Ok(Token::Atom(Form::Symbol(Symbol {
+        package: home,
+        name,
+    })))
+}
+
+/// The signs without the package marker that comes first, if one does.
+fn without_marker(signs: &[Sign]) -> &[Sign]
+    ensures { result.now ≡ spec.without_marker signs.now }
+{
+    match signs {
+        [first, rest @ ..] if !is_no_marker(*first) => rest,
+        _ => signs,
+    }
+}
+
+/// A symbol in a package of this name, behind one package marker or two.
+fn qualified(alloc: Global, home: Text, signs: &[Sign]) -> Result<Token, AllocError>
+    ensures { IfOk result (λ t. t ≡ spec.qualified home signs.now) }
+{
+    if home.is_ascii_text("") {
+        return Ok(Token::Bad(FaultKind::BadToken));
+    }
+    let home = package_of(alloc, home)?;
+    symbol_in(alloc, home, without_marker(signs))
+}
+
+/// A symbol with a package marker between these signs.
+fn marked(alloc: Global, before: &[Sign], after: &[Sign]) -> Result<Token, AllocError>
+    ensures { IfOk result (λ t. t ≡ spec.marked before.now after.now) }
+{
+    if before.is_empty() {
+        let package = Text::of_ascii(alloc, "KEYWORD")?;
+        return symbol_in(alloc, package, after);
+    }
+    let package = name_of(alloc, before)?;
+    qualified(alloc, package, after)
+}
+
+/// A symbol of COMMON-LISP.
+fn common_lisp(alloc: Global, name: Text) -> Result<Token, AllocError>
+    ensures { IfOk result (λ t. t ≡ spec.common_lisp name) }
+{
+    Ok(Token::Atom(Form::Symbol(Symbol::of_common_lisp(alloc, name)?)))
+}
+
+/// The symbol that a token is (2.3.4).
+pub(crate) fn symbol_token(alloc: Global, signs: &[Sign]) -> Result<Token, AllocError>
+    ensures { IfOk result (λ t. t ≡ spec.symbol_token signs.now) }
+{
+    let (before, rest) = signs.split_at(marker_at(signs));
+    match rest {
+        [] => common_lisp(alloc, name_of(alloc, before)?),
+        [_, after @ ..] => marked(alloc, before, after),
+    }
+}
+
+/// How many characters stand before the first colon.
+fn colon_at(text: &[char]) -> usize
+    ensures value { result ≡ run_len spec.is_no_colon text.now }
+    ensures within { result ≤ length text.now }
+{
+    let mut n = 0;
+    for c in text {
+        if *c == ':' {
+            return n;
+        }
+        n += 1;
+    }
+    n
+}
+
+/// The signs of a text without escapes.
+fn plain_signs(alloc: Global, text: &[char]) -> Result<Vec<Sign>, AllocError>
+    ensures { IfOk result (λ v. v.items ≡ map Plain text.now) }
+{
+    text.iter().map(|c| Sign::Plain(*c)).collect(alloc)
+}
+
+/// The symbol that a token without escapes is.
+#[tactic(auto, using(crate::proofs::NameLemmas::plain_symbol_is))]
+pub(crate) fn plain_symbol(alloc: Global, text: &[char]) -> Result<Token, AllocError>
+    ensures { IfOk result (λ t. t ≡ spec.symbol_token (map Plain text.now)) }
+{
+    if colon_at(text) == text.len() {
+        return common_lisp(alloc, upper_case(alloc, text)?);
+    }
+    let signs = plain_signs(alloc, text)?;
+    symbol_token(alloc, &signs)
+}

@@ -1,0 +1,267 @@
+ghost use Rattle.std.specs.Prelude.{◌≡◌, ◌∷◌, ◌≤◌, length, map, IfOk, false};
+ghost use Rattle.ls_reader.specs.Characters.{is_constituent, run_len};
+ghost use Rattle.ls_reader.specs.Lexing as spec;
+ghost use Rattle.ls_reader.specs.Lexing.{Gives};
+ghost use Rattle.ls_reader.specs.Tokens as tokens;
+ghost use Rattle.ls_reader.specs.declared.word.Mode.TheVariants as modes;
+
+use crate::character::is_constituent;
+use crate::datum::Form;
+use crate::fault::{FaultKind, Stop};
+use crate::name::{plain_symbol, symbol_token};
+use crate::number::{are_bits, float_of, is_rational, is_rational_in, may_be_number, number_of};
+use crate::sign::Sign;
+use crate::token::Token;
+use std::alloc::{AllocError, Global};
+
+/// What a token is read as.
+#[derive(Clone, Copy, Debug, PartialEq, Eq)]
+pub(crate) enum Role {
+    /// A token that stands by itself (2.3).
+    Free,
+    /// A rational in a base, behind `#b`, `#o` or `#x` (2.4.8.7 to 2.4.8.9).
+    Radix(u32),
+    /// Bits behind `#*`, or behind `#5*` where it is true (2.4.8.4).
+    Bits(bool),
+    /// A symbol behind `#:` (2.4.8.5).
+    Uninterned,
+}
+
+/// Where in a token a character stands.
+#[derive(Clone, Copy, Debug, PartialEq, Eq)]
+enum Mode {
+    Outside,
+    /// Behind a backslash.
+    Single,
+    Bars,
+    /// Behind a backslash between bars.
+    BarsSingle,
+}
+
+/// What a character does within a token.
+#[derive(Clone, Copy, Debug, PartialEq, Eq)]
+enum Step {
+    /// It does not belong to the token.
+    End,
+    /// It changes how the next one is read.
+    Skip(Mode),
+    /// It stands for something.
+    Keep(Mode, Sign),
+}
+
+fn outside_step(c: char) -> Step
+    ensures { result ≡ spec.outside_step c }
+{
+    if is_constituent(c) {
+        Step::Keep(Mode::Outside, Sign::Plain(c))
+    } else if c == '\\' {
+        Step::Skip(Mode::Single)
+    } else if c == '|' {
+        Step::Keep(Mode::Bars, Sign::Escape)
+    } else {
+        Step::End
+    }
+}
+
+fn bars_step(c: char) -> Step
+    ensures { result ≡ spec.bars_step c }
+{
+    match c {
+        '|' => Step::Skip(Mode::Outside),
+        '\\' => Step::Skip(Mode::BarsSingle),
+        _ => Step::Keep(Mode::Bars, Sign::Exact(c)),
+    }
+}
+
+/// What a character does, by where it stands.
+fn step_of(mode: Mode, c: char) -> Step
+    ensures { result ≡ spec.step_of mode c }
+{
+    match mode {
+        Mode::Outside => outside_step(c),
+        Mode::Single => Step::Keep(Mode::Outside, Sign::Exact(c)),
+        Mode::Bars => bars_step(c),
+        Mode::BarsSingle => Step::Keep(Mode::Bars, Sign::Exact(c)),
+    }
+}
+
+/// Whether a token may end here.
+fn at_end(mode: Mode) -> Result<(), Stop>
+    ensures { Gives (λ x. x) result (spec.may_end mode) }
+{
+    match mode {
+        Mode::Outside => Ok(()),
+        Mode::Single | Mode::Bars | Mode::BarsSingle => Err(Stop::Fault(FaultKind::Unclosed, 0)),
+    }
+}
+
+/// The signs of the token that comes first, and what follows.
+#[tactic(auto, unfolding(crate::specs::Lexing::scan), using(crate::proofs::WordLemmas::steps))]
+fn signs_at(alloc: Global, text: &[char]) -> Result<(Vec<Sign>, &[char]), Stop>
+    ensures { Gives (λ x. (x.0.items, x.1.now)) result (spec.at_front (spec.scan modes.Outside text.now)) }
+{
+    let mut signs = Vec::new(alloc);
+    let mut mode = Mode::Outside;
+    let mut rest = text;
+    while let [c, others @ ..] = rest {
+        match step_of(mode, *c) {
+            Step::End => return Ok((signs, rest)),
+            Step::Skip(next) => mode = next,
+            Step::Keep(next, sign) => {
+                signs.push(sign)?;
+                mode = next;
+            }
+        }
+        rest = others;
+    }
+    at_end(mode)?;
+    Ok((signs, rest))
+}
+
+/// How many constituents come first.
+pub(crate) fn constituents_len(text: &[char]) -> usize
+    ensures value { result ≡ run_len is_constituent text.now }
+    ensures within { result ≤ length text.now }
+{
+    let mut n = 0;
+    for c in text {
+        if !is_constituent(*c) {
+            return n;
+        }
+        n += 1;
+    }
+    n
+}
+
+fn are_points(text: &[char]) -> bool
+    ensures { result ≡ tokens.are_points text.now }
+{
+    points_len(text) == text.len()
+}
+
+/// How many points come first.
+fn points_len(text: &[char]) -> usize
+    ensures value { result ≡ run_len tokens.is_point_char text.now }
+    ensures within { result ≤ length text.now }
+{
+    let mut n = 0;
+    for c in text {
+        if *c != '.' {
+            return n;
+        }
+        n += 1;
+    }
+    n
+}
+
+/// What a token without escapes is (2.3). Most are symbols, which the first character tells.
+#[tactic(auto, using(crate::proofs::WordLemmas::plain_token_symbol))]
+fn plain_token(alloc: Global, text: &[char]) -> Result<Token, AllocError>
+    ensures { IfOk result (λ t. t ≡ tokens.plain_token text.now) }
+{
+    if !may_be_number(text) {
+        return plain_symbol(alloc, text);
+    }
+    if is_rational(text) {
+        return Ok(number_of(10, text));
+    }
+    if are_points(text) {
+        return Ok(points(text.len()));
+    }
+    match float_of(text) {
+        Some(format) => Ok(Token::Atom(Form::Float(format))),
+        None => plain_symbol(alloc, text),
+    }
+}
+
+/// What this many points are (2.3.3).
+fn points(count: usize) -> Token
+    ensures { result ≡ tokens.points count }
+{
+    if count == 1 {
+        Token::Dot
+    } else {
+        Token::Bad(FaultKind::BadToken)
+    }
+}
+
+fn bits(counted: bool, count: usize) -> Form
+    ensures { result ≡ tokens.bits counted count }
+{
+    if counted {
+        Form::Odd
+    } else {
+        Form::Bits(count as u64)
+    }
+}
+
+/// What a token is behind `#:`.
+fn uninterned(token: Token) -> Token
+    ensures { result ≡ tokens.uninterned token }
+{
+    match token {
+        Token::Bad(kind) => Token::Bad(kind),
+        _ => Token::Atom(Form::Odd),
+    }
+}
+
+/// What a token without escapes is, by what it is read as.
+fn plain_word(alloc: Global, role: Role, text: &[char]) -> Result<Token, AllocError>
+    ensures { IfOk result (λ t. t ≡ tokens.plain_word role text.now) }
+{
+    match role {
+        Role::Free => plain_token(alloc, text),
+        Role::Radix(base) if is_rational_in(base, text) => Ok(number_of(base, text)),
+        Role::Bits(counted) if are_bits(text) => Ok(Token::Atom(bits(counted, text.len()))),
+        Role::Uninterned if !text.is_empty() => Ok(uninterned(plain_token(alloc, text)?)),
+        _ => Ok(Token::Bad(FaultKind::BadToken)),
+    }
+}
+
+/// What a token with escapes is, by what it is read as.
+fn escaped_word(alloc: Global, role: Role, signs: &[Sign]) -> Result<Token, AllocError>
+    ensures { IfOk result (λ t. t ≡ tokens.escaped_word role signs.now) }
+{
+    match role {
+        Role::Free => symbol_token(alloc, signs),
+        Role::Uninterned => Ok(uninterned(symbol_token(alloc, signs)?)),
+        Role::Radix(_) | Role::Bits(_) => Ok(Token::Bad(FaultKind::BadToken)),
+    }
+}
+
+/// Whether an escape comes first.
+fn begins_escape(text: &[char]) -> bool
+    ensures { result ≡ spec.begins_escape text.now }
+{
+    match text {
+        [first, ..] => *first == '\\' || *first == '|',
+        [] => false,
+    }
+}
+
+/// The token that comes first, and what follows. Nearly all tokens have no escapes.
+pub(crate) fn word_at(alloc: Global, role: Role, text: &[char]) -> Result<(Token, &[char]), Stop>
+    ensures { Gives (λ x. (x.0, x.1.now)) result (spec.word_at role text.now) }
+{
+    let (front, rest) = text.split_at(constituents_len(text));
+    if begins_escape(rest) {
+        let (signs, rest) = signs_at(alloc, text)?;
+        return Ok((escaped_word(alloc, role, &signs)?, rest));
+    }
+    Ok((plain_word(alloc, role, front)?, rest))
+}
+
+/// The token directly behind a construct's character, where `#` begins none.
+#[tactic(auto, using(crate::proofs::WordLemmas::no_word))]
+pub(crate) fn word_behind(
+    alloc: Global,
+    role: Role,
+    text: &[char],
+) -> Result<(Token, &[char]), Stop>
+    ensures { Gives (λ x. (x.0, x.1.now)) result (spec.word_behind role text.now) }
+{
+    match text {
+        ['#', ..] => Ok((plain_word(alloc, role, &[])?, text)),
+        _ => word_at(alloc, role, text),
+    }
+}
