@@ -1,0 +1,4 @@
+pub mod SearchLemmas
+pub mod NameLemmas
+pub mod BitLemmas
+pub mod SetLemmas

@@ -1,0 +1,3 @@
+pub mod Builtins
+pub mod Search
+pub mod Sets
