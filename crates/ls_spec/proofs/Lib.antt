@@ -2,3 +2,9 @@ pub mod TruthLemmas
 pub mod AlikeLemmas
 pub mod ApproximationLemmas
 pub mod PlainLemmas
+pub mod ListLemmas
+pub mod RegionsLemmas
+pub mod FitsLemmas
+pub mod BuiltinLemmas
+pub mod KeyLemmas
+pub mod FindingLemmas

@@ -64,7 +64,7 @@ no_pair_point (point.Char c) x y h = h
 no_pair_point (point.Sym s) x y h = h
 
 mutual
-  Belongs-plain : (structures : Structures) (s : Specifier) (o : LispObject) → HasNoPredicate s → Belongs structures s o → Belongs structures s (plain o)
+  pub Belongs-plain : (structures : Structures) (s : Specifier) (o : LispObject) → HasNoPredicate s → Belongs structures s o → Belongs structures s (plain o)
   Belongs-plain structures all_objects o free h = tt
   Belongs-plain structures no_objects o free h = h
   Belongs-plain structures (and_of ss) o free h = all-plain structures ss o free h
@@ -84,7 +84,7 @@ mutual
   Belongs-plain structures (cons_of a b) (node marks _) free h = absurd h
   Belongs-plain structures (satisfies p) o free h = absurd free
 
-  plain-Belongs : (structures : Structures) (s : Specifier) (o : LispObject) → HasNoPredicate s → Belongs structures s (plain o) → Belongs structures s o
+  pub plain-Belongs : (structures : Structures) (s : Specifier) (o : LispObject) → HasNoPredicate s → Belongs structures s (plain o) → Belongs structures s o
   plain-Belongs structures all_objects o free h = tt
   plain-Belongs structures no_objects o free h = h
   plain-Belongs structures (and_of ss) o free h = plain-all structures ss o free h

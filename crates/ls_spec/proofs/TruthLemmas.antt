@@ -25,7 +25,7 @@ use Rattle.ls_spec.specs.declared.spec.DimPattern.{DimPattern}
 use Rattle.ls_spec.specs.declared.spec.DimPattern.TheVariants as dimensions
 use Rattle.ls_spec.specs.Specifier.{Specifier, all_objects, no_objects, and_of, or_of, not_of, eql_to, range_of, chars_of, symbols_of, kind_of, structure_under, any_structure, array_any, array_of, string_of, cons_of, satisfies, Specifiers, no_more, also}
 use Rattle.ls_spec.specs.Membership.{IsPoint, IsAbove, IsBelow, IsOfRangeKind, IsInRange, IsOfCharClass, IsCharIn, IsOfSymbolClass, IsSymbolIn, IsOfKind, IsStructureUnder, IsAnyStructure, MatchesPlace, MatchesPlaces, MatchesDimensions, IsSimpleIf, IsArrayWith, IsStringCode, IsPairOf, IsFirstHolding, Belongs, BelongsToAll, BelongsToSome, UpgradesTo}
-use Rattle.ls_spec.specs.Truth.{kind_number, same_kind, same_symbol, is_point, is_above, is_below, is_of_range_kind, is_in_range, is_of_char_class, is_char_in, is_of_symbol_class, is_symbol_in, is_of_kind, is_structure_under, is_any_structure, matches_place, matches_places, matches_dimensions, is_simple_if, is_array_with, is_string_code, is_pair_of, Learnt, holds, all_hold, some_holds, IsLearnt, AreLearnt, nothing_learnt, IsSelfContained, AreSelfContained}
+use Rattle.ls_spec.specs.Truth.{kind_number, same_kind, same_symbol, is_point, is_above, is_below, is_of_range_kind, is_in_range, is_of_char_class, is_char_in, is_of_symbol_class, is_symbol_in, is_of_kind, is_structure_under, is_any_structure, matches_place, matches_places, matches_dimensions, is_simple_if, is_array_with, is_string_code, is_pair_of, Learnt, holds, all_hold, some_holds, IsLearnt, AreLearnt, nothing_learnt, IsSelfContained, AreSelfContained, IsFlat}
 
 Decides-true : Decides true (Unit {0})
 Decides-true = (λ _. tt, λ _. refl)
@@ -43,13 +43,13 @@ Decides-le : (a b : ℕ) → Decides (nat_le a b) (a ≤ b)
 Decides-le a b = (λ e. grind arith, λ l. grind arith)
 
 -- texts are equal where their characters are
-Decides-text : (a b : List ℕ) → Decides (pointwise nat_eq a b) (a ≡ b)
+pub Decides-text : (a b : List ℕ) → Decides (pointwise nat_eq a b) (a ≡ b)
 Decides-text a b = slice_eq-Decides {E = nat_eq} Decides-eqb a b (pointwise nat_eq a b) refl
 
 abbrev symbol_with : List ℕ → List ℕ → Symbol
 symbol_with home name = record { «package» = home; name = name }
 
-same_parts : (s t : Symbol) → s.package ≡ t.package → s.name ≡ t.name → s ≡ t
+pub same_parts : (s t : Symbol) → s.package ≡ t.package → s.name ≡ t.name → s ≡ t
 same_parts s t e f = ap (λ p. symbol_with p s.name) e ∙ ap (λ n. symbol_with t.package n) f
 
 pub Decides-symbol : (s t : Symbol) → Decides (same_symbol s t) (s ≡ t)
@@ -82,9 +82,13 @@ kind_at_number Other = refl
 some_same : {X : Type 0} (x y : X) → Some x ≡ Some y → x ≡ y
 some_same x y e = cc
 
-Decides-kind : (j k : Kind) → Decides (same_kind j k) (j ≡ k)
+-- a kind is determined by its number
+pub same_kind_number : (j k : Kind) → kind_number j ≡ kind_number k → j ≡ k
+same_kind_number j k e = some_same j k (sym (kind_at_number j) ∙ ap (slice_get kinds) e ∙ kind_at_number k)
+
+pub Decides-kind : (j k : Kind) → Decides (same_kind j k) (j ≡ k)
 Decides-kind j k = (
-  λ e. some_same j k (sym (kind_at_number j) ∙ ap (slice_get kinds) ((Decides-eqb (kind_number j) (kind_number k)).0 e) ∙ kind_at_number k),
+  λ e. same_kind_number j k ((Decides-eqb (kind_number j) (kind_number k)).0 e),
   λ e. (Decides-eqb (kind_number j) (kind_number k)).1 (ap kind_number e),
 )
 
@@ -195,6 +199,21 @@ Decides-code : (structures : Structures) (e : Specifier) (c : ℕ) → UpgradesT
 Decides-code structures e c h d =
     (λ t. subst (UpgradesTo structures e) (sym ((Decides-eqb d c).0 t)) h, λ k. (Decides-eqb d c).1 (one_code structures (Belongs structures e) d c k h))
 
+-- a flat shape is of no structure type, no array and no cons
+Decides-under-flat : (structures : Structures) (y : Symbol) (shape : LispShape) → IsFlat shape → Decides (is_structure_under nothing_learnt.under y shape) (IsStructureUnder structures y shape)
+Decides-under-flat structures y (structure x) h = absurd h
+Decides-under-flat structures y _ h = Decides-false
+
+Decides-array-flat : (structures : Structures) (e : Specifier) (simple : Bool) (dims : DimPattern) (shape : LispShape) → IsFlat shape
+    → Decides (is_array_with (λ c. c == nothing_learnt.code_of e) simple (matches_dimensions dims) shape) (IsArrayWith (IsFirstHolding structures (λ x. Belongs structures e x)) simple (MatchesDimensions dims) shape)
+Decides-array-flat structures e simple dims (array c is_simple ns) h = absurd h
+Decides-array-flat structures e simple dims _ h = Decides-false
+
+Decides-cons-flat : (structures : Structures) (a b : Specifier) (shape : LispShape) → IsFlat shape
+    → Decides (is_pair_of (λ x. holds nothing_learnt a x) (λ x. holds nothing_learnt b x) shape) (IsPairOf (λ x. Belongs structures a x) (λ x. Belongs structures b x) shape)
+Decides-cons-flat structures a b (pair x y) h = absurd h
+Decides-cons-flat structures a b _ h = Decides-false
+
 mutual
   pub holds-Decides : (structures : Structures) (learnt : Learnt) (s : Specifier) (o : LispObject) → IsLearnt structures learnt s → Decides (holds learnt s o) (Belongs structures s o)
   holds-Decides structures learnt all_objects o h = Decides-true
@@ -241,3 +260,28 @@ mutual
 -- the truth value of one object in a specifier that is self-contained decides membership
 pub Decides-self_contained : (s : Specifier) (o : LispObject) (r : Bool) → r ≡ holds nothing_learnt s o → IsSelfContained s → (structures : Structures) → Decides r (Belongs structures s o)
 Decides-self_contained s o r e h structures = Decides-at r _ e (holds-Decides structures nothing_learnt s o (IsLearnt-self_contained structures s h))
+
+mutual
+  -- of a number, a character, a symbol or an opaque object nothing needs to be learnt
+  pub Decides-flat : (structures : Structures) (s : Specifier) (marks : List Symbol) (shape : LispShape) → IsFlat shape → Decides (holds nothing_learnt s (node marks shape)) (Belongs structures s (node marks shape))
+  Decides-flat structures (and_of ss) marks shape h = all-Decides-flat structures ss marks shape h
+  Decides-flat structures (or_of ss) marks shape h = some-Decides-flat structures ss marks shape h
+  Decides-flat structures (not_of s) marks shape h = Decides-not _ (Decides-flat structures s marks shape h)
+  Decides-flat structures (structure_under y) marks shape h = Decides-under-flat structures y shape h
+  Decides-flat structures (array_of e simple dims) marks shape h = Decides-array-flat structures e simple dims shape h
+  Decides-flat structures (cons_of a b) marks shape h = Decides-cons-flat structures a b shape h
+  Decides-flat structures all_objects marks shape h = Decides-true
+  Decides-flat structures no_objects marks shape h = Decides-false
+  Decides-flat structures s marks shape h = holds-Decides structures nothing_learnt s (node marks shape) tt
+
+  all-Decides-flat : (structures : Structures) (ss : Specifiers) (marks : List Symbol) (shape : LispShape) → IsFlat shape → Decides (all_hold nothing_learnt ss (node marks shape)) (BelongsToAll structures ss (node marks shape))
+  all-Decides-flat structures no_more marks shape h = Decides-true
+  all-Decides-flat structures (also s ss) marks shape h = Decides-and _ _ (Decides-flat structures s marks shape h) (all-Decides-flat structures ss marks shape h)
+
+  some-Decides-flat : (structures : Structures) (ss : Specifiers) (marks : List Symbol) (shape : LispShape) → IsFlat shape → Decides (some_holds nothing_learnt ss (node marks shape)) (BelongsToSome structures ss (node marks shape))
+  some-Decides-flat structures no_more marks shape h = Decides-false
+  some-Decides-flat structures (also s ss) marks shape h = Decides-or _ _ (Decides-flat structures s marks shape h) (some-Decides-flat structures ss marks shape h)
+
+-- the truth value of one such object
+pub Decides-unmarked : (s : Specifier) (shape : LispShape) (r : Bool) → r ≡ holds nothing_learnt s (node [] shape) → (structures : Structures) → IsFlat shape → Decides r (Belongs structures s (node [] shape))
+Decides-unmarked s shape r e structures h = Decides-at r _ e (Decides-flat structures s [] shape h)

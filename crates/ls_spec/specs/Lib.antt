@@ -5,3 +5,8 @@ pub mod Approximation
 pub mod Atoms
 pub mod Inclusion
 pub mod Truth
+pub mod Regions
+pub mod Fits
+pub mod Builtins
+pub mod Keys
+pub mod Finding

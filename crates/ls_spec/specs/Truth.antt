@@ -202,3 +202,11 @@ abbrev mutual
   pub AreSelfContained : Specifiers → Type 0
   AreSelfContained no_more = Unit {0}
   AreSelfContained (also s ss) = IsSelfContained s × AreSelfContained ss
+
+-- The shape of a number, a character, a symbol or an opaque object. Whether it belongs to a specifier depends
+-- neither on the structure types of the file nor on element types.
+abbrev pub IsFlat : LispShape → Type 0
+IsFlat (pair car cdr) = ⊥
+IsFlat (array code simple dims) = ⊥
+IsFlat (structure s) = ⊥
+IsFlat _ = Unit {0}

@@ -3,12 +3,26 @@
 //! the definitions.
 #![tactic(auto)]
 
+mod atom_list;
+mod builtin;
+mod copy;
+mod fits;
+mod key;
 mod laws;
+mod limits;
 mod membership;
+mod regions;
 mod spec;
 #[cfg(test)]
 mod tests;
 
+pub use atom_list::atoms;
+pub use builtin::of_builtin;
+pub use key::key_of_name;
 pub use laws::{approximations, one_right_answer, one_upgraded_code};
-pub use membership::belongs;
+pub use limits::{
+    DIMENSION_LIMIT, LARGEST_DENOMINATOR, LARGEST_DEPTH, LARGEST_NUMERATOR, LARGEST_RANK,
+};
+pub use membership::{belongs, belongs_unmarked};
+pub use regions::{Regions, is_included_within};
 pub use spec::{Bound, CharClass, DimPattern, Point, RangeKind, Spec, SymClass};

@@ -3,19 +3,19 @@
 ghost use Rattle.std.specs.Prelude.{◌≡◌, [], ◌∷◌, true};
 ghost use Rattle.std.specs.Bool.{Decides};
 ghost use Rattle.std.specs.List.{list_any};
-ghost use Rattle.ls_object.specs.Universe.{Structures, array};
+ghost use Rattle.ls_object.specs.Universe.{Structures, node, array};
 ghost use Rattle.ls_object.specs.Meaning.{lisp_object, lisp_shape};
 ghost use Rattle.ls_spec.specs.Meaning.{specifier, specifiers};
 ghost use Rattle.ls_spec.specs.Membership.{Belongs};
 ghost use Rattle.ls_spec.specs.Truth as truth;
-ghost use Rattle.ls_spec.specs.Truth.{nothing_learnt, IsSelfContained};
+ghost use Rattle.ls_spec.specs.Truth.{nothing_learnt, IsSelfContained, IsFlat};
 
 use crate::spec::{Bound, CharClass, DimPattern, Point, RangeKind, Spec, SymClass};
 use ls_object::{
     BASE_CHAR_PLACE, CHARACTER_PLACE, Code, Dims, Kind, NIL_PLACE, Object, Rat, Shape, Symbol,
 };
 
-fn kind_number(kind: Kind) -> u8
+pub(crate) fn kind_number(kind: Kind) -> u8
     ensures { result ≡ truth.kind_number kind }
 {
     kind as u8
@@ -198,18 +198,18 @@ fn has_mark(predicate: &Symbol, marks: &[Symbol]) -> bool
     marks.iter().any(|mark| is_same_symbol(predicate, mark))
 }
 
-/// Whether the object belongs to the specifier, where no structure name and no element type is asked for.
+/// Whether the object with these marks at its top node and this shape belongs to the specifier, where no
+/// structure name and no element type is asked for.
 #[cycle(holds)]
-fn holds(spec: &Spec, object: &Object) -> bool
-    ensures { result ≡ truth.holds nothing_learnt (specifier spec.now) (lisp_object object.now) }
+fn holds(spec: &Spec, marks: &[Symbol], shape: &Shape) -> bool
+    ensures { result ≡ truth.holds nothing_learnt (specifier spec.now) (node marks.now (lisp_shape shape.now)) }
 {
-    let shape = &object.shape;
     match spec {
         Spec::All => true,
         Spec::Nothing => false,
-        Spec::And(parts) => all_hold(parts.as_slice(), object),
-        Spec::Or(parts) => some_holds(parts.as_slice(), object),
-        Spec::Not(part) => !holds(part.get(), object),
+        Spec::And(parts) => all_hold(parts.as_slice(), marks, shape),
+        Spec::Or(parts) => some_holds(parts.as_slice(), marks, shape),
+        Spec::Not(part) => !holds(part.get(), marks, shape),
         Spec::Eql(point) => is_point(point, shape),
         Spec::Range { kind, lo, hi } => is_in_range(*kind, *lo, *hi, shape),
         Spec::Chars(class) => is_char_in(*class, shape),
@@ -223,19 +223,28 @@ fn holds(spec: &Spec, object: &Object) -> bool
         },
         Spec::StringOf { simple, dim } => is_string(*simple, *dim, shape),
         Spec::ConsOf(car, cdr) => match shape {
-            Shape::Pair(x, y) => holds(car.get(), x.get()) && holds(cdr.get(), y.get()),
+            Shape::Pair(x, y) => object_holds(car.get(), x.get())
+                && object_holds(cdr.get(), y.get()),
             _ => false,
         },
-        Spec::Satisfies(predicate) => has_mark(predicate, object.marks.as_slice()),
+        Spec::Satisfies(predicate) => has_mark(predicate, marks),
     }
 }
 
+/// The same, of an object.
 #[cycle(holds)]
-fn all_hold(parts: &[Spec], object: &Object) -> bool
-    ensures { result ≡ truth.all_hold nothing_learnt (specifiers parts.now) (lisp_object object.now) }
+fn object_holds(spec: &Spec, object: &Object) -> bool
+    ensures { result ≡ truth.holds nothing_learnt (specifier spec.now) (lisp_object object.now) }
+{
+    holds(spec, object.marks.as_slice(), &object.shape)
+}
+
+#[cycle(holds)]
+fn all_hold(parts: &[Spec], marks: &[Symbol], shape: &Shape) -> bool
+    ensures { result ≡ truth.all_hold nothing_learnt (specifiers parts.now) (node marks.now (lisp_shape shape.now)) }
 {
     for part in parts {
-        if !holds(part, object) {
+        if !holds(part, marks, shape) {
             return false;
         }
     }
@@ -243,11 +252,11 @@ fn all_hold(parts: &[Spec], object: &Object) -> bool
 }
 
 #[cycle(holds)]
-fn some_holds(parts: &[Spec], object: &Object) -> bool
-    ensures { result ≡ truth.some_holds nothing_learnt (specifiers parts.now) (lisp_object object.now) }
+fn some_holds(parts: &[Spec], marks: &[Symbol], shape: &Shape) -> bool
+    ensures { result ≡ truth.some_holds nothing_learnt (specifiers parts.now) (node marks.now (lisp_shape shape.now)) }
 {
     for part in parts {
-        if holds(part, object) {
+        if holds(part, marks, shape) {
             return true;
         }
     }
@@ -260,5 +269,14 @@ pub fn belongs(spec: &Spec, object: &Object) -> bool
     requires { IsSelfContained (specifier spec.now) }
     ensures { (structures : Structures) → Decides result (Belongs structures (specifier spec.now) (lisp_object object.now)) }
 {
-    holds(spec, object)
+    object_holds(spec, object)
+}
+
+/// Whether the object of this shape that has no marks belongs to the specifier, where the shape is that of a
+/// number, a character, a symbol or an opaque object. It takes no memory.
+pub fn belongs_unmarked(spec: &Spec, shape: &Shape) -> bool
+    ensures membership { (structures : Structures) → IsFlat (lisp_shape shape.now) → Decides result (Belongs structures (specifier spec.now) (node [] (lisp_shape shape.now))) }
+    ensures truth { result ≡ truth.holds nothing_learnt (specifier spec.now) (node [] (lisp_shape shape.now)) }
+{
+    holds(spec, &[], shape)
 }

@@ -5,8 +5,8 @@ ghost use Rattle.std.specs.Prelude.{IfOk};
 ghost use Rattle.ls_spec.specs.Meaning.{specifier};
 ghost use Rattle.ls_spec.specs.Truth.{IsSelfContained};
 
-use crate::{Bound, CharClass, Point, RangeKind, Spec, SymClass, belongs};
-use ls_object::{Boxed, Items, Object, Rat, Shape, Symbol, Text};
+use crate::{Bound, CharClass, Point, RangeKind, Spec, SymClass, atoms, belongs};
+use ls_object::{Boxed, Items, Object, Parents, Rat, Shape, Symbol, Text};
 use std::alloc::{AllocError, Global};
 use std::test::Fail;
 
@@ -128,5 +128,32 @@ fn a_pair_belongs_by_both_parts(rt: HostRuntime) -> Result<(), Fail> {
         let spec = pairs_of(rt.alloc(), Rat::integer(car), Rat::integer(cdr))?;
         assert_eq!(rt; belongs(&spec, &pair), belonging, "{car} and {cdr}");
     }
+    Ok(())
+}
+
+/// A list of SYMBOL, KEYWORD and SYMBOL again.
+fn symbols_twice(alloc: Global) -> Result<Items<Spec>, AllocError> {
+    let mut list = Items::new(alloc);
+    list.push(Spec::Symbols(SymClass::Any))?;
+    list.push(Spec::Symbols(SymClass::Keyword))?;
+    list.push(Spec::Symbols(SymClass::Any))?;
+    Ok(list)
+}
+
+#[test]
+fn an_atom_is_found_once(rt: HostRuntime) -> Result<(), Fail> {
+    let list = symbols_twice(rt.alloc())?;
+    let found = atoms(rt.alloc(), &list)?;
+    assert_eq!(rt; found.len(), 2);
+    Ok(())
+}
+
+#[test]
+fn a_copy_fits(rt: HostRuntime) -> Result<(), Fail> {
+    let parents = Parents::new(rt.alloc());
+    let bit = Spec::Eql(Point::Number(Rat::integer(1)));
+    assert!(rt; bit.copy(rt.alloc())?.fits(&parents));
+    let wide = Spec::Eql(Point::Number(Rat::integer(1 << 65)));
+    assert!(rt; !wide.fits(&parents));
     Ok(())
 }
