@@ -1,0 +1,11 @@
+pub mod AnsweredLemmas
+pub mod FlatLemmas
+pub mod CharLaw
+pub mod SymbolLaw
+pub mod KindLaw
+pub mod FractionLemmas
+pub mod GapLemmas
+pub mod EndLemmas
+pub mod NumberLaw
+pub mod StructLemmas
+pub mod StructLaw
