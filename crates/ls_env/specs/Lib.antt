@@ -1,0 +1,3 @@
+pub mod TopLevel
+pub mod Environments
+pub mod Gathering

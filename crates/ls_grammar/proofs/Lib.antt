@@ -1,0 +1,6 @@
+pub mod NumberLemmas
+pub mod OutcomeLemmas
+pub mod AgreementLemmas
+pub mod MeaningLemmas
+pub mod WholeLemmas
+pub mod FitLemmas

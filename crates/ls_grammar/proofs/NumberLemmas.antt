@@ -1,0 +1,35 @@
+-- Integers as rationals.
+use Rattle.std.proofs.lemmas.Int.{ints}
+use Rattle.std.proofs.Math.Nat.{pow-le-pow_right}
+use Rattle.std.proofs.Common.{◌≡◌, ℕ, ℤ, pos, ◌<◌, ◌≤◌, ◌^◌, ◌-ℤ◌, to_z, of_z, Bool, true, false, refl, sym, ◌∙◌, arith}
+use Rattle.std.specs.Int.{w128}
+use Rattle.std.specs.Prelude.{unsigned_abs, nat_lt, neg_ℤ}
+use Rattle.std.proofs.Math.Dec.{lit<}
+use Rattle.std.proofs.lemmas.Bool.{ltb-true, lt-ltb}
+use Rattle.ls_object.specs.declared.rat.Rat.{Rat}
+use Rattle.ls_object.specs.declared.rat.TheConstants.{NUMERATOR_LIMIT}
+use Rattle.ls_object.proofs.RatLemmas.{is_the_integer}
+use Rattle.ls_grammar.specs.Numbers.{whole, whole_if}
+
+apart : (a b : ℕ) → a < b → nat_lt a b ≡ false → ⊥
+apart a b h e = let t = lt-ltb a b h in let f : true ≡ false = sym t ∙ e in cc
+
+whole_by : (r : Rat) (z : ℤ) (fits : Bool) (e : nat_lt (unsigned_abs z) NUMERATOR_LIMIT ≡ fits) → r.num ≡ z → r.den ≡ 1 → unsigned_abs z < NUMERATOR_LIMIT → r ≡ whole_if z fits e
+whole_by r z true e num den h = is_the_integer r z (ltb-true (unsigned_abs z) NUMERATOR_LIMIT e) num den
+whole_by r z false e num den h = absurd (apart (unsigned_abs z) NUMERATOR_LIMIT h e)
+
+-- a rational with the denominator 1 is the integer that is its numerator
+pub whole_is : (r : Rat) (z : ℤ) → r.num ≡ z → r.den ≡ 1 → unsigned_abs z < NUMERATOR_LIMIT → r ≡ whole z
+whole_is r z num den h = whole_by r z (nat_lt (unsigned_abs z) NUMERATOR_LIMIT) refl num den h
+
+-- a power of two that is at most 2^64
+pub small_power : (n : ℕ) → n ≤ 64 → 2 ^ n ≤ 2 ^ 64
+small_power n h = pow-le-pow_right {n = 2} (lit< tt) h
+
+-- ---- numbers as the code computes them
+
+pub less_one : (z : ℤ) (n : ℕ) → z ≡ pos n → n ≤ 2 ^ 64 → to_z w128 (of_z w128 (to_z w128 (of_z w128 z) -ℤ pos 1)) ≡ pos n -ℤ pos 1
+less_one z n e h = omega (arith, ints, e, h)
+
+pub negated : (z : ℤ) (n : ℕ) → z ≡ pos n → n ≤ 2 ^ 64 → to_z w128 (of_z w128 (pos 0 -ℤ to_z w128 (of_z w128 z))) ≡ neg_ℤ (pos n)
+negated z n e h = omega (arith, ints, e, h)

@@ -1,0 +1,17 @@
+use Rattle.std.proofs.Common.{◌≡◌, ◌+◌, ◌*◌, drop, map}
+use Rattle.ls_spec.specs.Meaning.{specifier}
+use Rattle.ls_grammar.specs.Machine.{run_all, behind, outcome}
+use Rattle.ls_grammar.proofs.resolving.+resolve.Given as goal
+
+abbrev pub decreases-resolve_in : goal.decreases-resolve_in
+decreases-resolve_in l = 3 * l.left
+
+abbrev pub decreases-resolve_at : goal.decreases-resolve_at
+decreases-resolve_at l = 3 * l.left + 2
+
+abbrev pub decreases-resolve_all : goal.decreases-resolve_all
+decreases-resolve_all l = 3 * l.left + 1
+
+abbrev pub invariant-resolve_all-loop-part : goal.invariant-resolve_all-loop-part
+invariant-resolve_all-loop-part l =
+    run_all (outcome l.env l.left) l.parts l.fn.room ≡ behind (map specifier l.specs) (run_all (outcome l.env l.left) (drop l.part-index l.parts) l.room)

@@ -1,0 +1,81 @@
+use ls_reader::Span;
+use std::alloc::{AllocError, AllocFailed};
+use thiserror::Error;
+
+/// What is wrong with a datum as a type specifier.
+#[derive(Clone, Copy, Debug, PartialEq, Eq, Error)]
+pub enum RefusalKind {
+    /// A float name or REAL has an argument other than `*`.
+    #[error("ranges of floats and of reals are not supported")]
+    FloatRange,
+    /// COMPLEX has an argument other than `*`.
+    #[error("complex numbers with a part type are not supported")]
+    ComplexPart,
+    /// The list form of FUNCTION, or VALUES.
+    #[error("function types stand in declarations of functions alone")]
+    FunctionList,
+    /// No symbol and no list with a symbol as its head, a wrong count of arguments, or a name where it cannot stand.
+    #[error("no type specifier has this form")]
+    BadArgument,
+    /// A bound or a size that is none.
+    #[error("this is no bound or size")]
+    BadBound,
+    /// A number past the limits.
+    #[error("the number is past the limits")]
+    NumberTooWide,
+    /// An object of MEMBER or EQL that is no symbol, character or rational number.
+    #[error("only symbols, characters and rational numbers may stand here")]
+    MemberObject,
+    /// `*` where a specifier is needed.
+    #[error("`*` is no type specifier")]
+    StarNotAllowed,
+    /// The nesting passes the limit.
+    #[error("the type specifier is nested too deeply")]
+    TooDeep,
+    /// The count of specifiers and objects passes the limit.
+    #[error("the type specifier is too large")]
+    TooManyNodes,
+    /// There was no memory for the specifier.
+    #[error("out of memory")]
+    Memory,
+    /// A type specifier that is not supported.
+    #[error("this type specifier is not supported")]
+    NotBuilt,
+}
+
+/// Why a datum is no type specifier, and where.
+#[derive(Clone, Copy, Debug, PartialEq, Eq, Error)]
+#[error("no type specifier")]
+pub struct Refusal {
+    pub kind: RefusalKind,
+    pub place: Span,
+}
+
+/// Why resolving stops.
+#[derive(Debug, Drop)]
+pub(crate) enum Stop {
+    Memory,
+    Refused(Refusal),
+}
+
+impl From<AllocError> for Stop {
+    ghost use Rattle.std.specs.Prelude.{◌≡◌};
+    ghost use Rattle.ls_grammar.specs.declared.refusal.Stop.TheVariants.{Memory};
+
+    ghost from_gives = { λ _ e. e ≡ Memory };
+
+    fn from(_e: AllocError) -> Stop {
+        Stop::Memory
+    }
+}
+
+impl<T: Drop> From<AllocFailed<T>> for Stop {
+    ghost use Rattle.std.specs.Prelude.{◌≡◌};
+    ghost use Rattle.ls_grammar.specs.declared.refusal.Stop.TheVariants.{Memory};
+
+    ghost from_gives = { λ _ e. e ≡ Memory };
+
+    fn from(_e: AllocFailed<T>) -> Stop {
+        Stop::Memory
+    }
+}
