@@ -1,10 +1,9 @@
-mod NearestLemmas
-mod IntegerLaw
-mod SeparatingLemmas
-mod DenotingLemmas
-mod IntegerDenotingLemmas
 mod AppendLemmas
-mod ReportLemmas
 mod WordLemmas
+mod BuiltLemmas
+mod AtomLemmas
+mod SearchLemmas
+mod DenotedLemmas
 mod LineLemmas
+mod ReportLemmas
 mod EndingLemmas

@@ -1,6 +1,6 @@
 -- A right report decides each query of its forms.
-use Rattle.std.proofs.Common.{◌≡◌, ℕ, suc, zero, List, [], ◌∷◌, Bool, Option, inl, inr, refl, subst}
-use Rattle.std.specs.Prelude.{slice_get, Some, encode_utf8_all}
+use Rattle.std.proofs.Common.{◌≡◌, ℕ, suc, zero, List, [], ◌∷◌, Bool, Option, inl, inr, refl, ap, sym, ◌∙◌, subst}
+use Rattle.std.specs.Prelude.{slice_get, Some, None, encode_utf8_all}
 use Rattle.std.specs.List.{AllZip}
 use Rattle.std.proofs.lemmas.Slice.Zip.{AllZip-long}
 use Rattle.ls_io.specs.Moves.{Took}
@@ -9,12 +9,20 @@ use Rattle.ls_object.specs.Meaning.{lisp_object}
 use Rattle.ls_reader.specs.declared.datum.Datum.{Datum}
 use Rattle.ls_spec.proofs.ApproximationLemmas.{low_within, within_high}
 use Rattle.ls_spec.proofs.PlainLemmas.{sure-no_predicate}
+use Rattle.ls_spec.specs.Specifier.{Specifier}
+use Rattle.ls_env.specs.Environments.{Environment, environment}
+use Rattle.ls_grammar.specs.declared.refusal.Refusal.{Refusal}
+use Rattle.ls_grammar.specs.Denoting.{Denotes}
+use Rattle.ls_grammar.specs.Visiting.{refusal_of, or_else}
+use Rattle.ls_grammar.proofs.MeaningLemmas.{denotes_one}
+use Rattle.subtypep_app.specs.declared.answer.Answer.{Answer}
 use Rattle.subtypep_app.specs.declared.answer.Answer.TheVariants.{Yes, No, Unsure}
 use Rattle.subtypep_app.specs.declared.line.Line.{Line}
-use Rattle.subtypep_app.specs.declared.line.Line.TheVariants.{Answered, NotBuilt}
-use Rattle.subtypep_app.specs.Queries.{Question, inclusion, not_built, question_of, queries, structures_of}
+use Rattle.subtypep_app.specs.declared.line.Line.TheVariants.{Answered, Refused}
+use Rattle.subtypep_app.specs.Answers.{IsRight}
+use Rattle.subtypep_app.specs.Queries.{Question, inclusion, refused, question_of, refusal_of_question, queries, structures_of}
 use Rattle.subtypep_app.specs.Report.{IsReport, IsRightLine}
-use Rattle.subtypep_app.specs.Endings.{IsLineFor, AllDecided}
+use Rattle.subtypep_app.specs.Endings.{IsDecided, IsLineFor, AllDecided}
 
 -- where two lists are alike item by item, there is an item of the second at each place of the first
 zip_get : {A B : Type 0} (R : A → B → Type 0) (xs : List A) (ys : List B) (i : ℕ) (x : A) → AllZip R xs ys → slice_get xs i ≡ Some x
@@ -25,14 +33,14 @@ zip_get R (a ∷ xs) [] i x p e = absurd p
 zip_get R (a ∷ xs) (b ∷ ys) zero x p e = (let same : a ≡ x = cc in (b, refl, subst (λ z. R z b) same p.0))
 zip_get R (a ∷ xs) (b ∷ ys) (suc i) x p e = zip_get R xs ys i x p.1 e
 
--- a right line for a question decides it, or refuses it
-IsLineFor-from_right : (structures : Structures) (question : Question) (line : Line) → IsRightLine structures (Some question) line → IsLineFor structures question line
-IsLineFor-from_right structures (inclusion a b) (Answered Yes) right = record {
+-- a right answer decides
+IsDecided-from_right : (structures : Structures) (a b : Specifier) (answer : Answer) → IsRight structures a b answer → IsDecided structures a b (Answered answer)
+IsDecided-from_right structures a b Yes right = record {
   yes = (λ _. right, λ _. refl);
   no = λ not_included. absurd (not_included right);
   sure = λ _ _ not_included. absurd (not_included right);
 }
-IsLineFor-from_right structures (inclusion a b) (Answered (No o)) right = record {
+IsDecided-from_right structures a b (No o) right = record {
   yes = (
     λ e. absurd (cc),
     λ included. absurd (right.outside (within_high structures b (lisp_object o) (included (lisp_object o) right.is_object (low_within structures a (lisp_object o) right.inside)))),
@@ -40,14 +48,32 @@ IsLineFor-from_right structures (inclusion a b) (Answered (No o)) right = record
   no = λ _. inl (o, refl, right);
   sure = λ _ _ _. (o, refl, right);
 }
-IsLineFor-from_right structures (inclusion a b) (Answered (Unsure o)) right = record {
+IsDecided-from_right structures a b (Unsure o) right = record {
   yes = (λ e. absurd (cc), λ included. absurd (right.outside (included right.marked right.is_object right.inside)));
   no = λ _. inr (o, refl, right);
   sure = λ free_a free_b _. absurd (sure-no_predicate structures a b (lisp_object o) free_a free_b right);
 }
-IsLineFor-from_right structures (inclusion a b) NotBuilt right = absurd right
-IsLineFor-from_right structures not_built NotBuilt right = refl
-IsLineFor-from_right structures not_built (Answered answer) right = absurd right
+
+no_refusal : (r s : Option Refusal) (x : Refusal) → r ≡ None → s ≡ None → or_else r s ≡ Some x → ⊥
+no_refusal r s x e f g = (let none : or_else r s ≡ None = ap (λ o. or_else o s) e ∙ f in cc)
+
+-- a right line is for its question
+IsLineFor-from_right : (structures : Structures) (env : Environment) (question : Question) (line : Line) → IsRightLine structures env question line → IsLineFor structures env question line
+IsLineFor-from_right structures env question (Refused y) right = record {
+  decided = λ a b s t is first second. absurd (no_refusal (refusal_of env a) (refusal_of env b) y first.unrefused second.unrefused (sym (ap (refusal_of_question env) is) ∙ right));
+  refused = λ x is. (let same : Some y ≡ Some x = sym right ∙ is in cc);
+}
+IsLineFor-from_right structures env (inclusion a b) (Answered answer) right = record {
+  decided = λ c d s t is first second.
+      (let same : inclusion a b ≡ inclusion c d = is in
+      let one : a ≡ c = cc in
+      let other : b ≡ d = cc in
+      let s_is : right.0 ≡ s = denotes_one env c right.0 s (subst (λ e. Denotes env e right.0) one right.2.denotes) first.denotes in
+      let t_is : right.1 ≡ t = denotes_one env d right.1 t (subst (λ e. Denotes env e right.1) other right.3.denotes) second.denotes in
+      IsDecided-from_right structures s t answer (subst (λ u. IsRight structures s u answer) t_is (subst (λ u. IsRight structures u right.1 answer) s_is right.4)));
+  refused = λ x is. absurd (no_refusal (refusal_of env a) (refusal_of env b) x right.2.unrefused right.3.unrefused is);
+}
+IsLineFor-from_right structures env (refused x) (Answered answer) right = absurd right
 
 -- a right report whose UTF-8 the sink took decides each query
 pub AllDecided-from_report : (fs : List Datum) (found : Bool) (report : List ℕ) (before now : Option (List ℕ))
@@ -55,8 +81,8 @@ pub AllDecided-from_report : (fs : List Datum) (found : Bool) (report : List ℕ
 AllDecided-from_report fs found report before now r took = record {
   lines = r.lines;
   taken = subst (λ text. Took before now (encode_utf8_all text)) r.text took;
-  count = AllZip-long (λ d line. IsRightLine (structures_of fs) (question_of d) line) (queries fs) r.lines r.right;
-  each = λ i query question here asked.
-      (let there = zip_get (λ d line. IsRightLine (structures_of fs) (question_of d) line) (queries fs) r.lines i query r.right here in
-      (there.0, there.1, IsLineFor-from_right (structures_of fs) question there.0 (subst (λ q. IsRightLine (structures_of fs) q there.0) asked there.2)));
+  count = AllZip-long (λ query line. IsRightLine (structures_of fs) (environment fs) (question_of query) line) (queries fs) r.lines r.right;
+  each = λ i query here.
+      (let there = zip_get (λ query line. IsRightLine (structures_of fs) (environment fs) (question_of query) line) (queries fs) r.lines i query r.right here in
+      (there.0, there.1, IsLineFor-from_right (structures_of fs) (environment fs) (question_of query) there.0 there.2));
 }

@@ -1,7 +1,6 @@
 -- The right answer to a query (SUBTYPEP).
-use Rattle.ls_object.specs.Universe.{Structures}
+use Rattle.ls_object.specs.Universe.{Structures, IsPlain}
 use Rattle.ls_object.specs.Meaning.{lisp_object}
-use Rattle.ls_object.specs.Writing.{IsWritable}
 use Rattle.ls_spec.specs.Specifier.{Specifier}
 use Rattle.ls_spec.specs.Inclusion.{IsIncluded, IsWitness, IsUnsureWitness}
 use Rattle.subtypep_app.specs.declared.answer.Answer.{Answer}
@@ -14,8 +13,8 @@ IsRight structures a b Yes = IsIncluded structures a b
 IsRight structures a b (No o) = IsWitness structures a b (lisp_object o)
 IsRight structures a b (Unsure o) = IsUnsureWitness structures a b (lisp_object o)
 
--- the text of the witness can be written
-abbrev pub IsWritableAnswer : Answer → Type 0
-IsWritableAnswer Yes = Unit {0}
-IsWritableAnswer (No o) = IsWritable (lisp_object o)
-IsWritableAnswer (Unsure o) = IsWritable (lisp_object o)
+-- the witness, where there is one, is plain
+abbrev pub IsPlainAnswer : Answer → Type 0
+IsPlainAnswer Yes = Unit {0}
+IsPlainAnswer (No o) = IsPlain (lisp_object o)
+IsPlainAnswer (Unsure o) = IsPlain (lisp_object o)

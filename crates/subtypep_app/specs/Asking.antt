@@ -1,15 +1,29 @@
--- What the code's queries stand for.
+-- What the code's answers stand for.
+use Rattle.std.specs.Prelude.{◌≡◌, Option, Some, None, Result, Ok, Err}
+use Rattle.ls_reader.specs.declared.datum.Datum.{Datum}
+use Rattle.ls_spec.specs.declared.spec.Spec.{Spec}
 use Rattle.ls_spec.specs.Meaning.{specifier}
-use Rattle.subtypep_app.specs.declared.query.Query.{Query}
-use Rattle.subtypep_app.specs.declared.query.Query.TheVariants.{Inclusion, NotBuilt}
-use Rattle.subtypep_app.specs.Integers.{IsOfIntegers}
-use Rattle.subtypep_app.specs.Queries.{Question, inclusion, not_built}
+use Rattle.ls_env.specs.Environments.{Environment}
+use Rattle.ls_grammar.specs.declared.refusal.Refusal.{Refusal}
+use Rattle.ls_grammar.specs.Visiting.{Resolves, refusal_of}
+use Rattle.subtypep_app.specs.declared.query.Argument.{Argument}
+use Rattle.subtypep_app.specs.declared.query.Argument.TheVariants as argument
+use Rattle.subtypep_app.specs.declared.query.Asked.{Asked}
+use Rattle.subtypep_app.specs.declared.query.Asked.TheVariants as asked
+use Rattle.subtypep_app.specs.Built.{IsDecidable}
+use Rattle.subtypep_app.specs.Queries.{Question, inclusion, refused}
 
-abbrev pub asked : Query → Question
-asked (Inclusion a b) = inclusion (specifier a) (specifier b)
-asked NotBuilt = not_built
+-- the datum that an argument hands over
+abbrev pub handed : Argument → Option Datum
+handed (argument.Type d) = Some d.now
+handed argument.Unquoted = None
 
--- the decision takes the specifiers of the query
-abbrev pub IsAnswerable : Query → Type 0
-IsAnswerable (Inclusion a b) = IsOfIntegers (specifier a) × IsOfIntegers (specifier b)
-IsAnswerable NotBuilt = Unit {0}
+-- what a query asks
+abbrev pub seen : Asked → Question
+seen (asked.Inclusion a b) = inclusion a.now b.now
+seen (asked.Refused x) = refused x
+
+-- the datum resolves to the specifier, which the decision takes, or this is its refusal
+abbrev pub IsResolved : Environment → Datum → Result Spec Refusal → Type 0
+IsResolved env d (Ok s) = Resolves env d (specifier s) × IsDecidable (specifier s)
+IsResolved env d (Err x) = refusal_of env d ≡ Some x

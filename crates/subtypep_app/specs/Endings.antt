@@ -12,15 +12,19 @@ use Rattle.ls_reader.specs.Answers.{HasNoForms}
 use Rattle.ls_spec.specs.Specifier.{Specifier}
 use Rattle.ls_spec.specs.Approximation.{HasNoPredicate}
 use Rattle.ls_spec.specs.Inclusion.{IsIncluded, IsWitness, IsUnsureWitness}
+use Rattle.ls_env.specs.declared.query.Query.{Query}
+use Rattle.ls_env.specs.Environments.{Environment, environment}
+use Rattle.ls_grammar.specs.declared.refusal.Refusal.{Refusal}
+use Rattle.ls_grammar.specs.Visiting.{Resolves}
 use Rattle.subtypep_app.specs.declared.answer.Answer.TheVariants.{Yes, No, Unsure}
 use Rattle.subtypep_app.specs.declared.line.Line.{Line}
-use Rattle.subtypep_app.specs.declared.line.Line.TheVariants.{Answered, NotBuilt}
+use Rattle.subtypep_app.specs.declared.line.Line.TheVariants.{Answered, Refused}
 use Rattle.subtypep_app.specs.declared.status.Status.{Status}
 use Rattle.subtypep_app.specs.declared.status.Status.TheVariants.{Clean, Found, Usage, Unreadable, SourceFault, SinkFault, Memory}
 use Rattle.subtypep_app.specs.declared.words.Command.{Command}
 use Rattle.subtypep_app.specs.declared.words.Command.TheVariants.{Ask}
 use Rattle.subtypep_app.specs.Words.{Means, MeanNothing}
-use Rattle.subtypep_app.specs.Queries.{Question, inclusion, not_built, question_of, queries, structures_of}
+use Rattle.subtypep_app.specs.Queries.{Question, inclusion, question_of, refusal_of_question, queries, structures_of}
 use Rattle.subtypep_app.specs.Report.{Answers, lines_text}
 
 -- ---- right reports
@@ -163,20 +167,19 @@ pub record IsDecided (structures : Structures) (a b : Specifier) (line : Line) :
   pub no : (IsIncluded structures a b → ⊥) → HasWitness structures a b line ⊎ HasUnsureWitness structures a b line
   pub sure : HasNoPredicate a → HasNoPredicate b → (IsIncluded structures a b → ⊥) → HasWitness structures a b line
 
--- the line decides what was asked, or refuses what is not built
-abbrev pub IsLineFor : Structures → Question → Line → Type 0
-IsLineFor structures (inclusion a b) line = IsDecided structures a b line
-IsLineFor structures not_built line = line ≡ NotBuilt
+-- A line decides the query where both of its types resolve. Where it is refused, the line says why.
+pub record IsLineFor (structures : Structures) (env : Environment) (question : Question) (line : Line) : Type 0 where
+  pub decided : (a b : Datum) (s t : Specifier) → question ≡ inclusion a b → Resolves env a s → Resolves env b t → IsDecided structures s t line
+  pub refused : (x : Refusal) → refusal_of_question env question ≡ Some x → line ≡ Refused x
 
 -- What the sink took is a line for each query of the forms, in order, and each line is for its query.
 pub record AllDecided (fs : List Datum) (before now : Option (List ℕ)) : Type 0 where
   pub lines : List Line
   pub taken : Took before now (encode_utf8_all (lines_text (queries fs) lines))
   pub count : length lines ≡ length (queries fs)
-  pub each : (i : ℕ) (query : Datum) (question : Question)
+  pub each : (i : ℕ) (query : Query)
       → slice_get (queries fs) i ≡ Some query
-      → question_of query ≡ Some question
-      → (line : Line) × (slice_get lines i ≡ Some line) × IsLineFor (structures_of fs) question line
+      → (line : Line) × (slice_get lines i ≡ Some line) × IsLineFor (structures_of fs) (environment fs) (question_of query) line
 
 -- With the word `ask` every query of a text is decided, where no call failed and memory was not wanting.
 abbrev pub DecidesAll : List (List ℕ) → Outside → Outside → Status → Type 0

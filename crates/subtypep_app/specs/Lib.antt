@@ -1,8 +1,7 @@
 pub mod Answers
-pub mod Integers
+pub mod Built
+pub mod Searching
 pub mod Names
-pub mod Denoting
-pub mod Looking
 pub mod Queries
 pub mod Asking
 pub mod Lines

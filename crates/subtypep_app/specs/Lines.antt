@@ -1,8 +1,8 @@
--- Which lines can be written.
+-- Which lines have a plain witness, or none: the lines that can be written.
 use Rattle.subtypep_app.specs.declared.line.Line.{Line}
-use Rattle.subtypep_app.specs.declared.line.Line.TheVariants.{Answered, NotBuilt}
-use Rattle.subtypep_app.specs.Answers.{IsWritableAnswer}
+use Rattle.subtypep_app.specs.declared.line.Line.TheVariants.{Answered, Refused}
+use Rattle.subtypep_app.specs.Answers.{IsPlainAnswer}
 
-abbrev pub IsWritableLine : Line → Type 0
-IsWritableLine (Answered answer) = IsWritableAnswer answer
-IsWritableLine NotBuilt = Unit {0}
+abbrev pub IsPlainLine : Line → Type 0
+IsPlainLine (Answered answer) = IsPlainAnswer answer
+IsPlainLine (Refused x) = Unit {0}

@@ -97,8 +97,9 @@ pub fn run<S: Source, K: Sink>(
         (seen (S.left source.old) (K.written sink.old) (S.failures source.old) (K.failures sink.old))
         (seen (S.left source.new) (K.written sink.new) (S.failures source.new) (K.failures sink.new))
         result }
-    // Then the line of each query says Yes exactly where the first type is included in the second, and otherwise
-    // shows an object that is in the first and not in the second.
+    // Then the line of each query whose types resolve says Yes exactly where the first is included in the second,
+    // and otherwise shows an object that is in the first and not in the second. The line of any other query says
+    // what is wrong with it, and where.
     ensures decided { DecidesAll (texts words.now)
         (seen (S.left source.old) (K.written sink.old) (S.failures source.old) (K.failures sink.old))
         (seen (S.left source.new) (K.written sink.new) (S.failures source.new) (K.failures sink.new))

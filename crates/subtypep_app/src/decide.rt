@@ -1,49 +1,30 @@
-// The decision for specifiers of integers: finitely many objects stand for all.
+// The decision for specifiers that are built: finitely many objects stand for all.
 
-ghost use Rattle.std.specs.Prelude.{◌≡◌, ◌<◌, ◌^◌, [], unsigned_abs, IfOk, IfSome, MatchBool, MatchOption};
-ghost use Rattle.std.specs.List.{AllByRecursion};
-ghost use Rattle.ls_object.specs.Universe.{Structures, node, symbol, IsObject, IsPlain};
-ghost use Rattle.ls_object.specs.Meaning.{lisp_object};
+ghost use Rattle.std.specs.Prelude.{◌≡◌, ◌↔◌, [], true, IfOk, IfSome, MatchBool, MatchOption};
+ghost use Rattle.std.specs.List.{AllByRecursion, Contains};
+ghost use Rattle.ls_object.specs.declared.table.TheConstants.{T_PLACE};
+ghost use Rattle.ls_object.specs.Universe.{LispObject, Structures, node, array, IsObject, IsPlain};
+ghost use Rattle.ls_object.specs.Meaning.{lisp_object, lisp_shape};
 ghost use Rattle.ls_spec.specs.Meaning.{specifier};
-ghost use Rattle.ls_spec.specs.Truth.{IsSelfContained};
-ghost use Rattle.ls_spec.specs.Inclusion.{IsIncluded};
-ghost use Rattle.subtypep_app.specs.Answers.{IsRight, IsWritableAnswer};
-ghost use Rattle.subtypep_app.specs.Integers.{integer, IsCut, IsOfIntegers, Passes, Separates, IsSeparating, nil};
+ghost use Rattle.ls_spec.specs.Membership.{Belongs};
+ghost use Rattle.ls_spec.specs.Inclusion.{IsWitness};
+ghost use Rattle.subtypep_app.specs.Built.{IsBuilt, IsDecidable};
+ghost use Rattle.subtypep_app.specs.Answers.{IsRight, IsPlainAnswer};
+ghost use Rattle.subtypep_app.specs.Searching.{Separates, Passes, IsFound, IsFlatObject, IsCompound, IsAny, AreAtomsOfTwo, nil};
 
 use crate::answer::Answer;
-use crate::integers::{BOTTOM, push_cuts};
-use ls_object::{Items, Object, Rat, Shape, Symbol};
-use ls_spec::{Spec, belongs};
+use ls_object::{Boxed, Code, Dims, Items, Object, Rat, Shape, Symbol};
+use ls_points::{CharRegions, NumberRegions, OpaqueRegions, SymbolRegions};
+use ls_spec::{Regions, Spec, atoms, belongs};
 use std::alloc::{AllocError, Global};
 
 #[cfg(test)]
 mod tests;
 
-/// An integer, as an object.
-fn integer_object(alloc: Global, value: i128) -> Object
-    requires { unsigned_abs value < 2 ^ 66 }
-    ensures { lisp_object result ≡ integer value }
-{
-    Object {
-        marks: Items::new(alloc),
-        shape: Shape::Number(Rat::integer(value)),
-    }
-}
-
-/// The symbol NIL, which stands for all objects that are no integers.
-fn nil_object(alloc: Global) -> Result<Object, AllocError>
-    ensures { IfOk result (λ o. lisp_object o ≡ nil) }
-{
-    Ok(Object {
-        marks: Items::new(alloc),
-        shape: Shape::Sym(Symbol::nil(alloc)?),
-    })
-}
-
 /// Whether the object is in the first type and outside the second.
 fn is_separating(a: &Spec, b: &Spec, object: &Object) -> bool
-    requires first { IsSelfContained (specifier a.now) }
-    requires second { IsSelfContained (specifier b.now) }
+    requires first { IsBuilt (specifier a.now) }
+    requires second { IsBuilt (specifier b.now) }
     ensures { MatchBool result
         (Separates (specifier a.now) (specifier b.now) (lisp_object object.now))
         (Passes (specifier a.now) (specifier b.now) (lisp_object object.now)) }
@@ -51,16 +32,96 @@ fn is_separating(a: &Spec, b: &Spec, object: &Object) -> bool
     belongs(a, object) && !belongs(b, object)
 }
 
-/// The integer as an object, if it separates the types.
-fn separating_integer(alloc: Global, a: &Spec, b: &Spec, value: i128) -> Option<Object>
-    requires first { IsSelfContained (specifier a.now) }
-    requires second { IsSelfContained (specifier b.now) }
-    requires short { unsigned_abs value < 2 ^ 66 }
-    ensures { MatchOption result
-        (Passes (specifier a.now) (specifier b.now) (integer value))
-        (λ o. IsSeparating (specifier a.now) (specifier b.now) (lisp_object o)) }
+/// The first of the objects that is in the first type and outside the second.
+fn first_separating(
+    alloc: Global,
+    a: &Spec,
+    b: &Spec,
+    objects: &[Object],
+) -> Result<Option<Object>, AllocError>
+    requires first { IsBuilt (specifier a.now) }
+    requires second { IsBuilt (specifier b.now) }
+    ensures { IfOk result (λ found. MatchOption found
+        (AllByRecursion (λ r. Passes (specifier a.now) (specifier b.now) (lisp_object r)) objects.now)
+        (λ o. Contains objects.now o × Separates (specifier a.now) (specifier b.now) (lisp_object o))) }
 {
-    let object = integer_object(alloc, value);
+    for object in objects {
+        if is_separating(a, b, object) {
+            return Ok(Some(object.copy(alloc)?));
+        }
+    }
+    Ok(None)
+}
+
+/// An object of the class that is in the first type and outside the second, if there is one. It is sought among
+/// those that stand for the class.
+fn witness_of_class<R: Regions<Atom = Spec>>(
+    alloc: Global,
+    class: &R,
+    atoms: &Items<Spec>,
+    a: &Spec,
+    b: &Spec,
+) -> Result<Option<Object>, AllocError>
+    requires first { IsBuilt (specifier a.now) }
+    requires second { IsBuilt (specifier b.now) }
+    requires atoms { AreAtomsOfTwo (specifier a.now) (specifier b.now) atoms.now }
+    requires fit { AllByRecursion (R.IsFit class.now) atoms.now }
+    requires meaning { (structures : Structures) (x : Spec) (o : LispObject) → R.IsIn structures x o ↔ Belongs structures (specifier x) o }
+    ensures { IfOk result (λ found. (structures : Structures) → R.IsOver class.now structures
+        → IsFound structures (R.IsOfClass class.now) (specifier a.now) (specifier b.now) found) }
+{
+    let objects = class.reps(alloc, atoms)?;
+    let found = first_separating(alloc, a, b, objects.as_slice())?;
+    Ok(found)
+}
+
+/// A number, a character, a symbol or an opaque object that is in the first type and outside the second, if
+/// there is one.
+fn witness_of_flat(
+    alloc: Global,
+    atoms: &Items<Spec>,
+    a: &Spec,
+    b: &Spec,
+) -> Result<Option<Object>, AllocError>
+    requires first { IsDecidable (specifier a.now) }
+    requires second { IsDecidable (specifier b.now) }
+    requires atoms { AreAtomsOfTwo (specifier a.now) (specifier b.now) atoms.now }
+    ensures { IfOk result (IsFound [] IsFlatObject (specifier a.now) (specifier b.now)) }
+{
+    if let Some(object) = witness_of_class(alloc, &NumberRegions, atoms, a, b)? {
+        return Ok(Some(object));
+    }
+    if let Some(object) = witness_of_class(alloc, &CharRegions, atoms, a, b)? {
+        return Ok(Some(object));
+    }
+    if let Some(object) = witness_of_class(alloc, &SymbolRegions, atoms, a, b)? {
+        return Ok(Some(object));
+    }
+    let found = witness_of_class(alloc, &OpaqueRegions, atoms, a, b)?;
+    Ok(found)
+}
+
+/// The object of that shape that has no marks.
+fn unmarked(alloc: Global, shape: Shape) -> Object
+    ensures { lisp_object result ≡ node [] (lisp_shape shape) }
+{
+    Object {
+        marks: Items::new(alloc),
+        shape,
+    }
+}
+
+/// The object of that shape that has no marks, if it is in the first type and outside the second.
+fn witness_of_shape(alloc: Global, a: &Spec, b: &Spec, shape: Shape) -> Option<Object>
+    requires first { IsBuilt (specifier a.now) }
+    requires second { IsBuilt (specifier b.now) }
+    requires object { IsObject [] (node [] (lisp_shape shape)) }
+    requires plain { IsPlain (node [] (lisp_shape shape)) }
+    ensures { MatchOption result
+        (Passes (specifier a.now) (specifier b.now) (node [] (lisp_shape shape)))
+        (λ o. IsWitness [] (specifier a.now) (specifier b.now) (lisp_object o)) }
+{
+    let object = unmarked(alloc, shape);
     if is_separating(a, b, &object) {
         Some(object)
     } else {
@@ -68,104 +129,97 @@ fn separating_integer(alloc: Global, a: &Spec, b: &Spec, value: i128) -> Option<
     }
 }
 
-/// The first of these integers that separates the types.
-fn separating_cut(alloc: Global, a: &Spec, b: &Spec, cuts: &[i128]) -> Option<Object>
-    requires first { IsSelfContained (specifier a.now) }
-    requires second { IsSelfContained (specifier b.now) }
-    requires short { AllByRecursion IsCut cuts.now }
-    ensures { MatchOption result
-        (AllByRecursion (λ n. Passes (specifier a.now) (specifier b.now) (integer n)) cuts.now)
-        (λ o. IsSeparating (specifier a.now) (specifier b.now) (lisp_object o)) }
+/// NIL or 0, if it is in the first type and outside the second.
+fn small_witness(alloc: Global, a: &Spec, b: &Spec) -> Result<Option<Object>, AllocError>
+    requires first { IsBuilt (specifier a.now) }
+    requires second { IsBuilt (specifier b.now) }
+    ensures { IfOk result (λ found. IfSome found (λ o. IsWitness [] (specifier a.now) (specifier b.now) (lisp_object o))) }
 {
-    for cut in cuts {
-        if let Some(object) = separating_integer(alloc, a, b, *cut) {
-            return Some(object);
-        }
+    let nil = Shape::Sym(Symbol::nil(alloc)?);
+    if let Some(object) = witness_of_shape(alloc, a, b, nil) {
+        return Ok(Some(object));
     }
-    None
+    let zero = Shape::Number(Rat::integer(0));
+    Ok(witness_of_shape(alloc, a, b, zero))
 }
 
-/// The symbol NIL as an object, if it separates the types.
-fn separating_nil(alloc: Global, a: &Spec, b: &Spec) -> Result<Option<Object>, AllocError>
-    requires first { IsSelfContained (specifier a.now) }
-    requires second { IsSelfContained (specifier b.now) }
-    ensures { IfOk result (λ found. MatchOption found
-        (Passes (specifier a.now) (specifier b.now) nil)
-        (λ o. IsSeparating (specifier a.now) (specifier b.now) (lisp_object o))) }
+/// NIL, as the part of a cons.
+fn boxed_nil(alloc: Global) -> Result<Boxed<Object>, AllocError>
+    ensures { IfOk result (λ o. lisp_object o ≡ nil) }
 {
-    let object = nil_object(alloc)?;
-    if is_separating(a, b, &object) {
-        Ok(Some(object))
-    } else {
-        Ok(None)
-    }
+    let nil = unmarked(alloc, Shape::Sym(Symbol::nil(alloc)?));
+    Boxed::new(alloc, nil)
 }
 
-/// An integer that separates the types, if the integer below all cuts does: a short one where one just
-/// below a cut does too.
-fn separating_below(alloc: Global, a: &Spec, b: &Spec, cuts: &[i128]) -> Option<Object>
-    requires first { IsSelfContained (specifier a.now) }
-    requires second { IsSelfContained (specifier b.now) }
-    requires short { AllByRecursion IsCut cuts.now }
-    ensures { MatchOption result
-        (Passes (specifier a.now) (specifier b.now) (integer BOTTOM))
-        (λ o. IsSeparating (specifier a.now) (specifier b.now) (lisp_object o)) }
+/// The shape of the simple array of rank 0 that can hold every object.
+fn some_array(alloc: Global) -> Shape
+    ensures { lisp_shape result ≡ array T_PLACE true [] }
 {
-    let lowest = separating_integer(alloc, a, b, BOTTOM)?;
-    for cut in cuts {
-        if let Some(object) = separating_integer(alloc, a, b, *cut - 1) {
-            return Some(object);
-        }
-    }
-    Some(lowest)
-}
-
-/// An integer that separates the types, if one of the cuts or an integer below them does.
-fn separating_number(alloc: Global, a: &Spec, b: &Spec, cuts: &[i128]) -> Option<Object>
-    requires first { IsSelfContained (specifier a.now) }
-    requires second { IsSelfContained (specifier b.now) }
-    requires short { AllByRecursion IsCut cuts.now }
-    ensures { MatchOption result
-        (Passes (specifier a.now) (specifier b.now) (integer BOTTOM)
-        × AllByRecursion (λ n. Passes (specifier a.now) (specifier b.now) (integer n)) cuts.now)
-        (λ o. IsSeparating (specifier a.now) (specifier b.now) (lisp_object o)) }
-{
-    if let Some(object) = separating_integer(alloc, a, b, 0) {
-        return Some(object);
-    }
-    if let Some(object) = separating_cut(alloc, a, b, cuts) {
-        return Some(object);
-    }
-    separating_below(alloc, a, b, cuts)
-}
-
-/// An object of the first type that doesn't belong to the second, if there is one.
-fn separating_object(alloc: Global, a: &Spec, b: &Spec) -> Result<Option<Object>, AllocError>
-    requires first { IsOfIntegers (specifier a.now) }
-    requires second { IsOfIntegers (specifier b.now) }
-    ensures { IfOk result (λ found. MatchOption found
-        ((structures : Structures) → IsIncluded structures (specifier a.now) (specifier b.now))
-        (λ o. IsSeparating (specifier a.now) (specifier b.now) (lisp_object o))) }
-{
-    let mut cuts = Vec::new(alloc);
-    push_cuts(a, &mut cuts)?;
-    push_cuts(b, &mut cuts)?;
-    match separating_nil(alloc, a, b)? {
-        Some(object) => Ok(Some(object)),
-        None => Ok(separating_number(alloc, a, b, cuts.as_slice())),
+    Shape::Array {
+        elem: Code::ALL,
+        simple: true,
+        dims: Dims::new(alloc),
     }
 }
 
-/// Whether every object of the first type belongs to the second, where their atoms are ranges of integers
-/// and single integers. NIL stands for all objects that are no integers, and the cuts and one integer below
-/// them for all integers; so an object that separates the types is found among these, if there is one.
+/// A cons or an array that is in the first type and outside the second, if there is one. No atom that is
+/// built speaks of these, so one of each stands for all.
+fn witness_of_compound(alloc: Global, a: &Spec, b: &Spec) -> Result<Option<Object>, AllocError>
+    requires first { IsDecidable (specifier a.now) }
+    requires second { IsDecidable (specifier b.now) }
+    ensures { IfOk result (IsFound [] IsCompound (specifier a.now) (specifier b.now)) }
+{
+    let cons = Shape::Pair(boxed_nil(alloc)?, boxed_nil(alloc)?);
+    if let Some(object) = witness_of_shape(alloc, a, b, cons) {
+        return Ok(Some(object));
+    }
+    let array = some_array(alloc);
+    Ok(witness_of_shape(alloc, a, b, array))
+}
+
+/// An object that is in the first type and outside the second, if there is one.
+fn witness(
+    alloc: Global,
+    atoms: &Items<Spec>,
+    a: &Spec,
+    b: &Spec,
+) -> Result<Option<Object>, AllocError>
+    requires first { IsDecidable (specifier a.now) }
+    requires second { IsDecidable (specifier b.now) }
+    requires atoms { AreAtomsOfTwo (specifier a.now) (specifier b.now) atoms.now }
+    ensures { IfOk result (IsFound [] IsAny (specifier a.now) (specifier b.now)) }
+{
+    if let Some(object) = small_witness(alloc, a, b)? {
+        return Ok(Some(object));
+    }
+    if let Some(object) = witness_of_flat(alloc, atoms, a, b)? {
+        return Ok(Some(object));
+    }
+    let found = witness_of_compound(alloc, a, b)?;
+    Ok(found)
+}
+
+/// The atoms of both types.
+fn atoms_of_two(alloc: Global, a: &Spec, b: &Spec) -> Result<Items<Spec>, AllocError>
+    ensures { IfOk result (AreAtomsOfTwo (specifier a.now) (specifier b.now)) }
+{
+    let mut types = Items::new(alloc);
+    types.push(a.copy(alloc)?)?;
+    types.push(b.copy(alloc)?)?;
+    let found = atoms(alloc, &types)?;
+    Ok(found)
+}
+
+/// Whether every object of the first type belongs to the second. The objects of each class that stand for all
+/// of it are tried; so an object that is in the first type only is found among these, if there is one.
 pub(crate) fn decide(alloc: Global, a: &Spec, b: &Spec) -> Result<Answer, AllocError>
-    requires first { IsOfIntegers (specifier a.now) }
-    requires second { IsOfIntegers (specifier b.now) }
-    ensures right { IfOk result (λ answer. (structures : Structures) → IsRight structures (specifier a.now) (specifier b.now) answer) }
-    ensures writable { IfOk result IsWritableAnswer }
+    requires first { IsDecidable (specifier a.now) }
+    requires second { IsDecidable (specifier b.now) }
+    ensures right { IfOk result (IsRight [] (specifier a.now) (specifier b.now)) }
+    ensures plain { IfOk result IsPlainAnswer }
 {
-    match separating_object(alloc, a, b)? {
+    let atoms = atoms_of_two(alloc, a, b)?;
+    match witness(alloc, &atoms, a, b)? {
         Some(object) => Ok(Answer::No(object)),
         None => Ok(Answer::Yes),
     }

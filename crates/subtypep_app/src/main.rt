@@ -6,16 +6,13 @@ mod app;
 mod status;
 mod words;
 
-// What a form asks, and which specifier a datum denotes.
-mod look;
+// What a query asks.
 mod names;
 mod query;
-mod resolve;
 
 // The answer to a query.
 mod answer;
 mod decide;
-mod integers;
 
 // The line of a query, and the report of a text.
 mod line;

@@ -1,25 +1,17 @@
-// The symbols that queries and specifiers are made of.
+// The symbols that may be arguments of a query, and QUOTE.
 
 ghost use Rattle.std.specs.Prelude.{◌≡◌};
 ghost use Rattle.subtypep_app.specs.Names.{word_of, word_named};
 
 use ls_object::{Symbol, Text};
 
-/// What a symbol means in a query or a specifier.
+/// What a symbol means in the place of an argument, or as the head of one.
 #[derive(Clone, Copy, Debug, PartialEq, Eq)]
 pub(crate) enum Word {
     T,
     Nil,
-    Integer,
-    And,
-    Or,
-    Not,
-    Eql,
-    Star,
-    Subtypep,
-    Typep,
-    Progn,
-    EvalWhen,
+    Quote,
+    Keyword,
     Other,
 }
 
@@ -30,37 +22,21 @@ fn word_named(name: &Text) -> Word
         Word::T
     } else if name.is_ascii_text("NIL") {
         Word::Nil
-    } else if name.is_ascii_text("INTEGER") {
-        Word::Integer
-    } else if name.is_ascii_text("AND") {
-        Word::And
-    } else if name.is_ascii_text("OR") {
-        Word::Or
-    } else if name.is_ascii_text("NOT") {
-        Word::Not
-    } else if name.is_ascii_text("EQL") {
-        Word::Eql
-    } else if name.is_ascii_text("*") {
-        Word::Star
-    } else if name.is_ascii_text("SUBTYPEP") {
-        Word::Subtypep
-    } else if name.is_ascii_text("TYPEP") {
-        Word::Typep
-    } else if name.is_ascii_text("PROGN") {
-        Word::Progn
-    } else if name.is_ascii_text("EVAL-WHEN") {
-        Word::EvalWhen
+    } else if name.is_ascii_text("QUOTE") {
+        Word::Quote
     } else {
         Word::Other
     }
 }
 
-/// What the symbol means; only those of the package COMMON-LISP mean something.
+/// What the symbol means.
 pub(crate) fn word_of(symbol: &Symbol) -> Word
     ensures { result ≡ word_of symbol.now }
 {
     if symbol.package.is_ascii_text("COMMON-LISP") {
         word_named(&symbol.name)
+    } else if symbol.package.is_ascii_text("KEYWORD") {
+        Word::Keyword
     } else {
         Word::Other
     }

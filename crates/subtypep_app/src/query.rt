@@ -1,98 +1,125 @@
-// What a top-level form asks.
+// What a query asks.
 
-ghost use Rattle.std.specs.Prelude.{◌≡◌, IfOk, IfSome};
-ghost use Rattle.std.specs.Option.{option_map};
-ghost use Rattle.ls_spec.specs.Meaning.{specifier};
-ghost use Rattle.subtypep_app.specs.Looking.{resolved};
-ghost use Rattle.subtypep_app.specs.Asking.{asked, IsAnswerable};
-ghost use Rattle.subtypep_app.specs.Integers.{IsOfIntegers};
+ghost use Rattle.std.specs.Prelude.{◌≡◌};
+ghost use Rattle.ls_reader.specs.declared.datum.Form.{out-Form};
+ghost use Rattle.ls_env.specs.declared.query.QueryKind.TheVariants as query_kind;
 ghost use Rattle.subtypep_app.specs.Queries as spec;
+ghost use Rattle.subtypep_app.specs.Asking.{handed, seen};
 
-use crate::look::head_of;
 use crate::names::{Word, word_of};
-use crate::resolve::resolve;
+use ls_env::{Query, QueryKind};
+use ls_grammar::{Refusal, RefusalKind};
 use ls_reader::{Datum, Form};
-use ls_spec::Spec;
-use std::alloc::{AllocError, Global};
 
-/// What a form asks.
+/// What an argument of a query hands over, lent.
 #[derive(Drop)]
-pub(crate) enum Query {
-    /// Whether the first type is included in the second.
-    Inclusion(Spec, Spec),
-    /// Something that is not built.
-    NotBuilt,
+pub(crate) enum Argument<'a> {
+    /// The datum of a type.
+    Type(&'a Datum),
+    /// Nothing, since the argument would have to be evaluated.
+    Unquoted,
 }
 
-fn constant_argument(word: Word) -> Option<Spec>
-    ensures value { resolved result ≡ spec.constant_argument word }
-    ensures integers { IfSome result (λ s. IsOfIntegers (specifier s)) }
+/// What a query asks, with its data lent.
+#[derive(Drop)]
+pub(crate) enum Asked<'a> {
+    /// Whether the type of the first datum is included in that of the second.
+    Inclusion(&'a Datum, &'a Datum),
+    /// Nothing: this is wrong with it.
+    Refused(Refusal),
+}
+
+fn head_word(head: &Datum) -> Word
+    ensures { result ≡ spec.head_word (out-Form head.now.form) }
 {
-    match word {
-        Word::T => Some(Spec::All),
-        Word::Nil => Some(Spec::Nothing),
-        _ => None,
+    match &head.form {
+        Form::Symbol(symbol) => word_of(symbol),
+        _ => Word::Other,
     }
 }
 
-fn argument(alloc: Global, datum: &Datum) -> Result<Option<Spec>, AllocError>
-    ensures value { IfOk result (λ found. resolved found ≡ spec.argument datum.now) }
-    ensures integers { IfOk result (λ found. IfSome found (λ s. IsOfIntegers (specifier s))) }
+/// The datum that is quoted in a list with the head QUOTE.
+fn quoted_in(items: &[Datum]) -> Argument<'_>
+    ensures { handed result ≡ spec.quoted_in items.now }
+{
+    match items {
+        [head, datum] => match head_word(head) {
+            Word::Quote => Argument::Type(datum),
+            _ => Argument::Unquoted,
+        },
+        _ => Argument::Unquoted,
+    }
+}
+
+/// The datum that an argument hands over, if the argument needs no evaluation.
+fn type_argument(datum: &Datum) -> Argument<'_>
+    ensures { handed result ≡ spec.type_argument datum.now }
 {
     match &datum.form {
-        Form::Quote(quoted) => resolve(alloc, quoted.get()),
-        Form::Symbol(symbol) => Ok(constant_argument(word_of(symbol))),
-        _ => Ok(None),
+        Form::Quote(quoted) => Argument::Type(quoted.get()),
+        Form::List(items) => quoted_in(items.as_slice()),
+        Form::Symbol(symbol) => match word_of(symbol) {
+            Word::T | Word::Nil | Word::Keyword => Argument::Type(datum),
+            _ => Argument::Unquoted,
+        },
+        _ => Argument::Unquoted,
     }
 }
 
-fn included_in(a: Option<Spec>, b: Option<Spec>) -> Query
-    requires first { IfSome a (λ s. IsOfIntegers (specifier s)) }
-    requires second { IfSome b (λ s. IsOfIntegers (specifier s)) }
-    ensures value { asked result ≡ spec.included_in (resolved a) (resolved b) }
-    ensures answerable { IsAnswerable result }
+fn bad_argument(datum: &Datum) -> Asked<'static>
+    ensures { seen result ≡ spec.bad_argument datum.now }
 {
-    match (a, b) {
-        (Some(a), Some(b)) => Query::Inclusion(a, b),
-        _ => Query::NotBuilt,
+    Asked::Refused(Refusal {
+        kind: RefusalKind::BadArgument,
+        place: datum.span,
+    })
+}
+
+fn included_in<'a>(first: &'a Datum, second: &'a Datum) -> Asked<'a>
+    ensures { seen result ≡ spec.included_in first.now second.now (spec.type_argument first.now) (spec.type_argument second.now) }
+{
+    match type_argument(first) {
+        Argument::Unquoted => bad_argument(first),
+        Argument::Type(a) => match type_argument(second) {
+            Argument::Unquoted => bad_argument(second),
+            Argument::Type(b) => Asked::Inclusion(a, b),
+        },
     }
 }
 
-fn subtypep_query(alloc: Global, args: &[Datum]) -> Result<Query, AllocError>
-    ensures value { IfOk result (λ q. asked q ≡ spec.subtypep_question args.now) }
-    ensures answerable { IfOk result IsAnswerable }
+/// What a SUBTYPEP form with these arguments asks.
+fn asked_with<'a>(form: &'a Datum, args: &'a [Datum]) -> Asked<'a>
+    ensures { seen result ≡ spec.subtypep_question form.now args.now }
 {
     match args {
-        [first, second] => {
-            let a = argument(alloc, first)?;
-            let b = argument(alloc, second)?;
-            Ok(included_in(a, b))
-        }
-        _ => Ok(Query::NotBuilt),
+        [first, second] => included_in(first, second),
+        [first, second, _] => included_in(first, second),
+        _ => bad_argument(form),
     }
 }
 
-fn headed_query(alloc: Global, head: Word, args: &[Datum]) -> Result<Option<Query>, AllocError>
-    ensures value { IfOk result (λ q. option_map asked q ≡ spec.headed_question head args.now) }
-    ensures answerable { IfOk result (λ q. IfSome q IsAnswerable) }
+/// What a SUBTYPEP form asks.
+fn asked_of_subtypep(form: &Datum) -> Asked<'_>
+    ensures { seen result ≡ spec.kind_question query_kind.Subtypep form.now }
 {
-    match head {
-        Word::Subtypep => Ok(Some(subtypep_query(alloc, args)?)),
-        Word::Typep | Word::Progn | Word::EvalWhen => Ok(Some(Query::NotBuilt)),
-        _ => Ok(None),
-    }
-}
-
-/// What a top-level form asks, if it asks something.
-pub(crate) fn query_of(alloc: Global, datum: &Datum) -> Result<Option<Query>, AllocError>
-    ensures value { IfOk result (λ q. option_map asked q ≡ spec.question_of datum.now) }
-    ensures answerable { IfOk result (λ q. IfSome q IsAnswerable) }
-{
-    let Form::List(items) = &datum.form else {
-        return Ok(None);
+    let Form::List(items) = &form.form else {
+        return bad_argument(form);
     };
     match items.as_slice() {
-        [head, args @ ..] => headed_query(alloc, head_of(head), args),
-        [] => Ok(None),
+        [_, args @ ..] => asked_with(form, args),
+        [] => bad_argument(form),
+    }
+}
+
+/// What a query asks.
+pub(crate) fn asked_of(query: &Query) -> Asked<'_>
+    ensures { seen result ≡ spec.question_of query.now }
+{
+    match query.kind {
+        QueryKind::Subtypep => asked_of_subtypep(&query.form),
+        QueryKind::Typep => Asked::Refused(Refusal {
+            kind: RefusalKind::NotBuilt,
+            place: query.form.span,
+        }),
     }
 }

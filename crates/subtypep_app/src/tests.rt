@@ -71,55 +71,246 @@ fn outcome_of(alloc: Global, case: &Case) -> Result<Outcome, AllocError> {
     })
 }
 
+/// A text, and its report.
+type Row<'a> = (&'a [u8], &'a [u8]);
+
+/// Texts without a refusal.
+const ANSWERED: [Row<'static>; 28] = [
+    (b"", b""),
+    (RANGES, RANGES_REPORT),
+    (b"(defun f)", b""),
+    (b"(subtypep 'integer 'rational)", b"1:1 T\n"),
+    (b"(subtypep '(rational (0) (1)) 'ratio)", b"1:1 T\n"),
+    (b"(subtypep '(integer 5 3) nil)", b"1:1 T\n"),
+    (
+        b"(subtypep '(integer 5 3) nil)\n  (subtypep '(integer 0 10) '(integer (0) 10))\n",
+        b"1:1 T\n2:3 NIL WITNESS 0\n",
+    ),
+    (
+        b"(subtypep '(unsigned-byte 64) '(integer 0 18446744073709551615))",
+        b"1:1 T\n",
+    ),
+    (
+        b"(subtypep '(integer 0 18446744073709551615) '(unsigned-byte 64))",
+        b"1:1 T\n",
+    ),
+    (
+        b"(subtypep '(integer 0 18446744073709551616) '(unsigned-byte 64))",
+        b"1:1 NIL WITNESS 18446744073709551616\n",
+    ),
+    (
+        b"(subtypep '(member |a b|) 'keyword)",
+        b"1:1 NIL WITNESS |a b|\n",
+    ),
+    (
+        b"(subtypep '(member 1+) 'keyword)",
+        b"1:1 NIL WITNESS |1+|\n",
+    ),
+    (
+        b"(subtypep '(eql #\\U+00E9) 'base-char)",
+        b"1:1 NIL WITNESS #\\U+00E9\n",
+    ),
+    (
+        b"(subtypep '(eql pkg:x) 'null)",
+        b"1:1 NIL WITNESS PKG::X\n",
+    ),
+    (b"(subtypep '(member *) 'symbol)", b"1:1 T\n"),
+    (
+        b"(subtypep '(eql 1/3) '(rational (1/3)))",
+        b"1:1 NIL WITNESS 1/3\n",
+    ),
+    (
+        b"(subtypep '(and character (not base-char)) 'extended-char)",
+        b"1:1 T\n",
+    ),
+    (
+        b"(subtypep '(and base-char (not standard-char) (not (eql #\\Rubout))) '(or (eql #\\Tab) (integer 0)))",
+        b"1:1 NIL WITNESS #\\U+0000\n",
+    ),
+    (b"(subtypep 'boolean 'symbol)", b"1:1 T\n"),
+    (
+        b"(subtypep 'keyword '(member :a))",
+        b"1:1 NIL WITNESS :AA\n",
+    ),
+    (b"(subtypep 'real 'number)", b"1:1 T\n"),
+    (b"(subtypep 'number 'real)", b"1:1 NIL WITNESS #<COMPLEX>\n"),
+    (
+        b"(subtypep 'structure-object '(not random-state))",
+        b"1:1 T\n",
+    ),
+    (
+        b"(subtypep 't '(or number symbol character structure-object function hash-table readtable package pathname stream random-state condition restart))",
+        b"1:1 NIL WITNESS #<OTHER>\n",
+    ),
+    (b"(subtypep (quote integer) (quote number))", b"1:1 T\n"),
+    (b"(subtypep 'integer 'rational anything)", b"1:1 T\n"),
+    (
+        b"(progn (subtypep nil nil) (eval-when (subtypep t t) (subtypep t t)))",
+        b"1:8 T\n1:53 T\n",
+    ),
+    (b"\n(progn)(eval-when)", b""),
+];
+
 #[test]
 fn texts_are_answered(rt: HostRuntime) -> Result<(), Fail> {
-    let cases: [(&[u8], Status, &[u8]); 12] = [
-        (b"", Status::Clean, b""),
-        (RANGES, Status::Clean, RANGES_REPORT),
-        (b"(subtypep '(integer 5 3) nil)", Status::Clean, b"1:1 T\n"),
-        (
-            b"(subtypep '(integer 5 3) nil)\n  (subtypep '(integer 0 10) '(integer (0) 10))\n",
-            Status::Clean,
-            b"1:1 T\n2:3 NIL WITNESS 0\n",
-        ),
-        (b"(defun f)", Status::Clean, b""),
-        (
-            b"(subtypep 'cons 'integer)",
-            Status::Found,
-            b"1:1 REFUSED NOT-BUILT 1:1\n",
-        ),
-        (
-            b"(typep 1 'integer)",
-            Status::Found,
-            b"1:1 REFUSED NOT-BUILT 1:1\n",
-        ),
-        (b"\n(progn)", Status::Found, b"2:1 REFUSED NOT-BUILT 2:1\n"),
-        (
-            b" (eval-when)",
-            Status::Found,
-            b"1:2 REFUSED NOT-BUILT 1:2\n",
-        ),
-        (
-            b"(subtypep 'integer",
-            Status::Unreadable,
-            b"FAULT UNCLOSED 1:1\n",
-        ),
-        (
-            b"(subtypep 'integer 't))",
-            Status::Unreadable,
-            b"FAULT STRAY-CLOSE 1:23\n",
-        ),
-        (
-            b"(subtypep \"a\" t)",
-            Status::Unreadable,
-            b"FAULT NOT-BUILT 1:11\n",
-        ),
-    ];
-    for (text, status, report) in cases {
+    for (text, report) in ANSWERED {
         let got = outcome_of(rt.alloc(), &Case::ask(text))?;
         assert_eq!(rt; got.bytes.as_slice(), report);
-        assert_eq!(rt; got.status, status);
+        assert_eq!(rt; got.status, Status::Clean);
     }
+    Ok(())
+}
+
+/// Texts with a refused query, and their lines.
+const REFUSED: [Row<'static>; 24] = [
+    (
+        b"(subtypep '(float 0.0 1.0) 'float)",
+        b"1:1 REFUSED FLOAT-RANGE 1:12\n",
+    ),
+    (
+        b"(subtypep 'complex '(complex float))",
+        b"1:1 REFUSED COMPLEX-PART 1:21\n",
+    ),
+    (
+        b"(subtypep 'function '(function (t) t))",
+        b"1:1 REFUSED FUNCTION-LIST 1:22\n",
+    ),
+    (
+        b"(subtypep '(integer 0 18446744073709551617) 't)",
+        b"1:1 REFUSED NUMBER-TOO-WIDE 1:23\n",
+    ),
+    (
+        b"(subtypep '(integer a) 't)",
+        b"1:1 REFUSED BAD-BOUND 1:21\n",
+    ),
+    (
+        b"(subtypep '(member a \"a\") 't)",
+        b"1:1 REFUSED MEMBER-OBJECT 1:22\n",
+    ),
+    (
+        b"(subtypep '(or integer *) t)",
+        b"1:1 REFUSED STAR-NOT-ALLOWED 1:24\n",
+    ),
+    (
+        b"(subtypep '(not integer symbol) t)",
+        b"1:1 REFUSED BAD-ARGUMENT 1:12\n",
+    ),
+    (
+        b"(subtypep 'cons 'integer)",
+        b"1:1 REFUSED NOT-BUILT 1:12\n",
+    ),
+    (
+        b"(subtypep '(and (vector t)) 'integer)",
+        b"1:1 REFUSED NOT-BUILT 1:17\n",
+    ),
+    (
+        b"(subtypep 'integer 'string)",
+        b"1:1 REFUSED NOT-BUILT 1:21\n",
+    ),
+    (b"(subtypep :a t)", b"1:1 REFUSED NOT-BUILT 1:11\n"),
+    (b"(subtypep 't :a)", b"1:1 REFUSED NOT-BUILT 1:14\n"),
+    // The refusal of the first type comes first.
+    (
+        b"(subtypep 'cons '(float 1))",
+        b"1:1 REFUSED NOT-BUILT 1:12\n",
+    ),
+    // An argument that is not quoted comes before it.
+    (
+        b"(subtypep 'cons \"a\")",
+        b"1:1 REFUSED BAD-ARGUMENT 1:17\n",
+    ),
+    (b"(subtypep 1 \"a\")", b"1:1 REFUSED BAD-ARGUMENT 1:11\n"),
+    (
+        b"(subtypep integer 'integer)",
+        b"1:1 REFUSED BAD-ARGUMENT 1:11\n",
+    ),
+    (
+        b"(subtypep 't (quote integer symbol))",
+        b"1:1 REFUSED BAD-ARGUMENT 1:14\n",
+    ),
+    (
+        b"(subtypep 't (list integer))",
+        b"1:1 REFUSED BAD-ARGUMENT 1:14\n",
+    ),
+    // A wrong count comes first.
+    (b" (subtypep)", b"1:2 REFUSED BAD-ARGUMENT 1:2\n"),
+    (b"(subtypep 't)", b"1:1 REFUSED BAD-ARGUMENT 1:1\n"),
+    (
+        b"(subtypep cons 't 't 't)",
+        b"1:1 REFUSED BAD-ARGUMENT 1:1\n",
+    ),
+    (b"(typep 1 'integer)", b"1:1 REFUSED NOT-BUILT 1:1\n"),
+    (
+        b"(progn 1\n(subtypep t t)\n(typep))",
+        b"2:1 T\n3:1 REFUSED NOT-BUILT 3:1\n",
+    ),
+];
+
+#[test]
+fn queries_are_refused_with_kind_and_place(rt: HostRuntime) -> Result<(), Fail> {
+    for (text, report) in REFUSED {
+        let got = outcome_of(rt.alloc(), &Case::ask(text))?;
+        assert_eq!(rt; got.bytes.as_slice(), report);
+        assert_eq!(rt; got.status, Status::Found);
+    }
+    Ok(())
+}
+
+/// Whether MEMBER of so many zeros is included in T.
+fn zeros(alloc: Global, count: usize) -> Result<Vec<u8>, AllocError> {
+    let mut text = Vec::from_slice(alloc, b"(subtypep '(member")?;
+    for _ in 0..count {
+        text.extend_from_slice(b" 0")?;
+    }
+    text.extend_from_slice(b") t)")?;
+    Ok(text)
+}
+
+#[test]
+fn a_specifier_has_so_many_parts(rt: HostRuntime) -> Result<(), Fail> {
+    let rows: [(usize, &[u8]); 2] = [
+        (262_143, b"1:1 T\n"),
+        (262_144, b"1:1 REFUSED TOO-MANY-NODES 1:524306\n"),
+    ];
+    for (count, report) in rows {
+        let text = zeros(rt.alloc(), count)?;
+        let got = outcome_of(rt.alloc(), &Case::ask(&text))?;
+        assert_eq!(rt; got.bytes.as_slice(), report, "with {count} parts");
+    }
+    Ok(())
+}
+
+/// The line of a text that has a fault.
+#[test]
+fn faults_are_named_with_their_places(rt: HostRuntime) -> Result<(), Fail> {
+    let cases: [(&[u8], &[u8]); 11] = [
+        (b"(subtypep 'integer", b"FAULT UNCLOSED 1:1\n"),
+        (b"(subtypep 'integer 't))", b"FAULT STRAY-CLOSE 1:23\n"),
+        (b"a\xff", b"FAULT NOT-UTF8 1:2\n"),
+        (b"(a . )", b"FAULT BAD-DOT 1:6\n"),
+        (b"(a ,)", b"FAULT STRAY-CLOSE 1:5\n"),
+        (b"1/0", b"FAULT ZERO-DENOMINATOR 1:1\n"),
+        (b"#1=a", b"FAULT LABEL 1:1\n"),
+        (b"a::", b"FAULT BAD-TOKEN 1:1\n"),
+        (b"'", b"FAULT UNCLOSED 1:1\n"),
+        (b"#| a\n  #| b |# #|", b"FAULT UNCLOSED 2:11\n"),
+        (&[b'('; 257], b"FAULT TOO-DEEP 1:257\n"),
+    ];
+    for (text, report) in cases {
+        let got = outcome_of(rt.alloc(), &Case::ask(text))?;
+        assert_eq!(rt; got.bytes.as_slice(), report);
+        assert_eq!(rt; got.status, Status::Unreadable);
+    }
+    Ok(())
+}
+
+/// A datum that a feature expression leaves out is not there.
+#[test]
+fn features_choose_the_arguments(rt: HostRuntime) -> Result<(), Fail> {
+    let text = b"(subtypep #+ansi-cl 'integer #-ansi-cl 'symbol t)";
+    let got = outcome_of(rt.alloc(), &Case::ask(text))?;
+    assert_eq!(rt; got.bytes.as_slice(), b"1:1 T\n".as_slice());
+    assert_eq!(rt; got.status, Status::Clean);
     Ok(())
 }
 

@@ -1,14 +1,15 @@
 // The decision against membership, over many small specifiers.
 
-ghost use Rattle.std.specs.Prelude.{◌≡◌, ◌≤◌, ◌<◌, unsigned_abs, IfOk};
+ghost use Rattle.std.specs.Prelude.{◌<◌, IfOk};
 ghost use Rattle.ls_spec.specs.Meaning.{specifier, specifiers};
+ghost use Rattle.ls_spec.specs.Fits.{HaveSmallNumbers, IsSmall, IsSmallBound};
 ghost use Rattle.ls_spec.specs.Truth.{IsSelfContained};
-ghost use Rattle.subtypep_app.specs.Integers.{AreOfIntegers, IsIntegerBound, IsLimitedInteger, IsOfIntegers};
+ghost use Rattle.subtypep_app.specs.Built.{AreBuilt, IsDecidable};
 
-use super::decide;
+use super::{decide, some_array};
 use crate::answer::Answer;
-use ls_object::{Boxed, Items, Object, Rat, Shape, Symbol, Text};
-use ls_spec::{Bound, Point, RangeKind, Spec, belongs};
+use ls_object::{Boxed, Items, Kind, Object, Rat, Shape, Symbol, Text};
+use ls_spec::{Bound, CharClass, Point, RangeKind, Spec, SymClass, belongs};
 use std::alloc::{AllocError, Global};
 use std::test::Fail;
 
@@ -39,7 +40,7 @@ impl Numbers {
 
     /// An integer from -3 to 3.
     fn integer(&mut self) -> Rat
-        ensures { IsLimitedInteger result }
+        ensures { IsSmall result }
     {
         match self.below(7) {
             0 => Rat::integer(-3),
@@ -53,7 +54,7 @@ impl Numbers {
     }
 
     fn bound(&mut self) -> Bound
-        ensures { IsIntegerBound result }
+        ensures { IsSmallBound result }
     {
         match self.below(3) {
             0 => Bound::Free,
@@ -62,26 +63,51 @@ impl Numbers {
         }
     }
 
-    /// T, NIL, a range of integers or EQL of an integer.
-    fn atom(&mut self) -> Spec
-        ensures { IsOfIntegers (specifier result) }
+    fn range(&mut self, kind: RangeKind) -> Spec
+        ensures { IsDecidable (specifier result) }
+    {
+        Spec::Range {
+            kind,
+            lo: self.bound(),
+            hi: self.bound(),
+        }
+    }
+
+    /// A class of characters, of symbols or of opaque objects.
+    fn class(&mut self) -> Spec
+        ensures { IsDecidable (specifier result) }
     {
         match self.below(8) {
+            0 => Spec::Chars(CharClass::Any),
+            1 => Spec::Chars(CharClass::Base),
+            2 => Spec::Chars(CharClass::Standard),
+            3 => Spec::Symbols(SymClass::Any),
+            4 => Spec::Symbols(SymClass::Keyword),
+            5 => Spec::Kind(Kind::Stream),
+            6 => Spec::Kind(Kind::OtherStructure),
+            _ => Spec::StructAny,
+        }
+    }
+
+    /// A specifier without parts.
+    fn atom(&mut self) -> Spec
+        ensures { IsDecidable (specifier result) }
+    {
+        match self.below(10) {
             0 => Spec::All,
             1 => Spec::Nothing,
             2 | 3 => Spec::Eql(Point::Number(self.integer())),
-            _ => Spec::Range {
-                kind: RangeKind::Integer,
-                lo: self.bound(),
-                hi: self.bound(),
-            },
+            4 => Spec::Eql(Point::Char('a')),
+            5 | 6 => self.range(RangeKind::Integer),
+            7 => self.range(RangeKind::Rational),
+            _ => self.class(),
         }
     }
 
     /// At most two specifiers, so many levels deep.
     #[cycle(specs)]
     fn parts(&mut self, alloc: Global, levels: u32) -> Result<Items<Spec>, AllocError>
-        ensures { IfOk result (λ parts. AreOfIntegers (specifiers parts)) }
+        ensures { IfOk result (λ parts. AreBuilt (specifiers parts) × HaveSmallNumbers (specifiers parts)) }
     {
         let mut parts = Items::new(alloc);
         match self.below(4) {
@@ -98,7 +124,7 @@ impl Numbers {
     /// A specifier at most so many levels deep.
     #[cycle(specs)]
     fn spec(&mut self, alloc: Global, levels: u32) -> Result<Spec, AllocError>
-        ensures { IfOk result (λ spec. IsOfIntegers (specifier spec)) }
+        ensures { IfOk result (λ spec. IsDecidable (specifier spec)) }
     {
         if levels == 0 {
             return Ok(self.atom());
@@ -112,22 +138,40 @@ impl Numbers {
     }
 }
 
-/// The integers from -5 to 5, and the symbol CAR.
-fn tried_objects(alloc: Global) -> Result<Vec<Object>, AllocError> {
-    let mut objects = Vec::new(alloc);
-    for place in 0..11_u8 {
-        objects.push(Object {
-            marks: Items::new(alloc),
-            shape: Shape::Number(Rat::integer(i128::from(place) - 5)),
-        })?;
-    }
+/// Appends the object of the shape.
+fn push(alloc: Global, shape: Shape, objects: &mut Vec<Object>) -> Result<(), AllocError> {
     objects.push(Object {
         marks: Items::new(alloc),
-        shape: Shape::Sym(Symbol {
-            package: Text::of_ascii(alloc, "COMMON-LISP")?,
-            name: Text::of_ascii(alloc, "CAR")?,
-        }),
+        shape,
     })?;
+    Ok(())
+}
+
+/// Appends the symbol CAR of a package.
+fn push_car(alloc: Global, package: &str, objects: &mut Vec<Object>) -> Result<(), AllocError> {
+    let package = Text::of(alloc, package)?;
+    let name = Text::of(alloc, "CAR")?;
+    push(alloc, Shape::Sym(Symbol { package, name }), objects)
+}
+
+/// Integers from -5 to 5 and the halves beside them, characters, symbols, opaque objects and an array.
+fn tried_objects(alloc: Global) -> Result<Vec<Object>, AllocError> {
+    let mut objects = Vec::new(alloc);
+    for place in 0..21_u8 {
+        if let Some(number) = Rat::new(i128::from(place) - 10, 2) {
+            push(alloc, Shape::Number(number), &mut objects)?;
+        }
+    }
+    for c in ['a', 'b', '\t', '\u{e9}'] {
+        push(alloc, Shape::Char(c), &mut objects)?;
+    }
+    for kind in [Kind::Stream, Kind::OtherStructure, Kind::Other] {
+        push(alloc, Shape::Opaque(kind), &mut objects)?;
+    }
+    for package in ["COMMON-LISP", "KEYWORD"] {
+        push_car(alloc, package, &mut objects)?;
+    }
+    push(alloc, some_array(alloc), &mut objects)?;
     Ok(objects)
 }
 
@@ -165,8 +209,8 @@ fn agrees(a: &Spec, b: &Spec, answer: &Answer, objects: &[Object]) -> bool
 
 /// Whether the decision about the types agrees with membership, and whether it is Yes.
 fn tried(alloc: Global, a: &Spec, b: &Spec, objects: &[Object]) -> Result<(bool, bool), AllocError>
-    requires first { IsOfIntegers (specifier a.now) }
-    requires second { IsOfIntegers (specifier b.now) }
+    requires first { IsDecidable (specifier a.now) }
+    requires second { IsDecidable (specifier b.now) }
 {
     let answer = decide(alloc, a, b)?;
     Ok((

@@ -13,6 +13,14 @@ returns-in-Ok-report_of-clause-ends g c =
     let right = subst (λ bytes. Answers bytes report.status report.text) c.deref.ensures.value c.in-Ok-report_of.ensures in
     IsEnded-from_answer _ _ report.status _ text report.text _ told right c.as_bytes.ensures.utf8 c.in-Ok.ensures.end c.finish.ensures.ends
 
+pub returns-in-Ok-report_of-clause-sink_sound : goal.returns-in-Ok-report_of-clause-sink_sound
+returns-in-Ok-report_of-clause-sink_sound g c = λ room enough.
+    let text = c.in-Ok.text.items in
+    let report = c.in-Ok-report_of.report in
+    let told = told_all _ _ text c.in-Ok.ensures.all c.in-Ok.ensures.end in
+    let right = subst (λ bytes. Answers bytes report.status report.text) c.deref.ensures.value c.in-Ok-report_of.ensures in
+    stays_or_longer Answers _ report.status text report.text _ room told right c.as_bytes.ensures.utf8 (λ fits. c.finish.ensures.sound room enough fits)
+
 -- the text is too long
 pub returns-in-Err-TooLong-clause-ends : goal.returns-in-Err-TooLong-clause-ends
 returns-in-Err-TooLong-clause-ends g c =
