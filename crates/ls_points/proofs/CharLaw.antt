@@ -1,4 +1,5 @@
 -- The characters that stand for all characters.
+use Rattle.std.proofs.lemmas.Bool.{cases_Bool}
 use Rattle.std.proofs.Common.{ℕ, ◌≡◌, ◌<◌, ◌≤◌, ◌+◌, ap, refl, sym, subst, ◌∙◌, ◌⊎◌, inl, inr, Bool, true, false, ◌||◌, nat_eq, nat_lt, if◌then◌else◌, true≢false, List, [], ◌∷◌, ◌++◌, map, fold, length, Option, Some, None, MatchOption, arith, length-append, append_assoc}
 use Rattle.std.specs.Char.{IsScalar}
 use Rattle.std.specs.List.{AllByRecursion, list_any}
@@ -26,15 +27,11 @@ use Rattle.ls_points.specs.Characters.{named_characters, with_characters, is_jus
 use Rattle.ls_points.specs.Some.{SomeOf}
 use Rattle.ls_points.proofs.FlatLemmas.{SomeOf-front, SomeOf-back, AreAlike, AreAlike-itself, represented, all_answered, count_answered}
 
-either_way : (b : Bool) → (b ≡ true) ⊎ (b ≡ false)
-either_way true = inl refl
-either_way false = inr refl
-
 -- ---- the named characters
 
 any_append : (q : ℕ) (xs ys : List ℕ) → list_any (nat_eq q) (xs ++ ys) ≡ (list_any (nat_eq q) xs || list_any (nat_eq q) ys)
 any_append q [] ys = refl
-any_append q (x ∷ xs) ys = let e = any_append q xs ys in elim (either_way (nat_eq q x)) [ inl t ↦ cc | inr t ↦ cc ]
+any_append q (x ∷ xs) ys = let e = any_append q xs ys in elim (cases_Bool (nat_eq q x)) [ inl t ↦ cc | inr t ↦ cc ]
 
 -- what is not found after an insertion is neither found before nor inserted
 absent_by : (q k : ℕ) (ks : List ℕ) (b : Bool) → list_any (nat_eq k) ks ≡ b → list_any (nat_eq q) (if b then ks else ks ++ k ∷ []) ≡ false → (list_any (nat_eq q) ks ≡ false) × (nat_eq q k ≡ false)
@@ -44,9 +41,9 @@ absent_by q k ks true e h = elim (eqb_tells q k) [
 ]
 absent_by q k ks false e h =
     let both : (list_any (nat_eq q) ks || (nat_eq q k || false)) ≡ false = sym (any_append q ks (k ∷ [])) ∙ h in
-    elim (either_way (list_any (nat_eq q) ks)) [
+    elim (cases_Bool (list_any (nat_eq q) ks)) [
       | inl t ↦ absurd (true≢false (sym (ap (λ b. b || (nat_eq q k || false)) t) ∙ both))
-      | inr t ↦ elim (either_way (nat_eq q k)) [
+      | inr t ↦ elim (cases_Bool (nat_eq q k)) [
         | inl u ↦ absurd (true≢false (sym (ap (λ b. list_any (nat_eq q) ks || (b || false)) u ∙ ap (λ b. b || true) t) ∙ both))
         | inr u ↦ (t, u)
       ]
@@ -98,9 +95,9 @@ abbrev IsJustInSome : ℕ → Type 0
 IsJustInSome c = ((is_just_in Standard c ≡ true) × (c < 128)) ⊎ ((is_just_in Base c ≡ true) × (c < 128)) ⊎ ((is_just_in Any c ≡ true) × (128 ≤ c))
 
 some_class : (c : ℕ) → IsJustInSome c
-some_class c = elim (either_way (is_of_char_class Standard c)) [
+some_class c = elim (cases_Bool (is_of_char_class Standard c)) [
   | inl e ↦ inl (e, below_standard c e)
-  | inr e ↦ elim (either_way (nat_lt c 128)) [
+  | inr e ↦ elim (cases_Bool (nat_lt c 128)) [
     | inl l ↦ inr (inl (rw (l, e) refl, grind (arith, nat_tests)))
     | inr l ↦ inr (inr (rw l refl, grind (arith, nat_tests)))
   ]
@@ -125,7 +122,7 @@ abbrev is_character_flat : (c : ℕ) → Unit {0}
 is_character_flat c = tt
 
 not_named : (q k : ℕ) → IsNotNamedBy q (eql_to (point.Char k)) → nat_eq q k ≡ false
-not_named q k h = elim (either_way (nat_eq q k)) [ inl t ↦ absurd (true≢false (sym (ap (λ b. b || false) t) ∙ h)) | inr t ↦ t ]
+not_named q k h = elim (cases_Bool (nat_eq q k)) [ inl t ↦ absurd (true≢false (sym (ap (λ b. b || false) t) ∙ h)) | inr t ↦ t ]
 
 -- two characters just in one class, neither of them named, are in the same atoms
 alike_in : (class : CharClass) (c d : ℕ) (s : Specifier) → is_just_in class c ≡ true → is_just_in class d ≡ true → IsAtom s → IsNotNamedBy c s → IsNotNamedBy d s → holds nothing_learnt s (node [] (character c)) ≡ holds nothing_learnt s (node [] (character d))
@@ -174,7 +171,7 @@ module _ (atoms : List Spec) (standard base other : Option ℕ) (fit : AllByRecu
   named = fold with_characters [] atoms
 
   covered : (c : ℕ) → IsScalar c → SomeOf (λ u. AreAlike character is_character_flat atoms u c) (stand_ins named standard base other)
-  covered c scalar = elim (either_way (list_any (nat_eq c) named)) [
+  covered c scalar = elim (cases_Bool (list_any (nat_eq c) named)) [
     | inl e ↦ SomeOf-front _ named _ (found c atoms named e)
     | inr e ↦ SomeOf-back _ named _ (elim (some_class c) [
       | inl (just, l) ↦ SomeOf-front _ (option_to_list standard) _ (stands Standard 0 128 c atoms standard fit standard_is scalar (omega arith) l just e)

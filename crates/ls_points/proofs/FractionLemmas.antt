@@ -3,7 +3,7 @@ use Rattle.std.proofs.Common.{ℕ, zero, suc, ℤ, pos, unsigned_abs, ◌≡◌,
 use Rattle.std.specs.Int.{IsGcd}
 use Rattle.std.specs.Ordering.{is_lt}
 use Rattle.std.specs.Cmp.{IsStrictWeakOrder}
-use Rattle.std.proofs.lemmas.Bool.{cases_order}
+use Rattle.std.proofs.lemmas.Bool.{cases_order, cases_Bool}
 use Rattle.std.proofs.lemmas.Bool.Decides.{Decides-eqb}
 use Rattle.std.proofs.lemmas.Int.{ints, by_lt_z, unsigned_abs-mul}
 use Rattle.std.proofs.lemmas.Nat.Gcd.{IsGcd-swap, IsGcd-from_sub, IsGcd-from_zero, same_from_IsGcd, dvd_antisymm}
@@ -14,11 +14,6 @@ use Rattle.ls_object.specs.Ratio.{IsLessRatio, ratio_cmp}
 use Rattle.ls_object.specs.declared.rat.Rat.{Rat}
 use Rattle.ls_spec.proofs.TruthLemmas.{Decides-int_le}
 use Rattle.ls_points.specs.Numbers.{Fraction, fraction, is_at_most, is_integer, IsAtMost, is_less}
-
--- a test is true or false
-pub either_way : (b : Bool) → (b ≡ true) ⊎ (b ≡ false)
-either_way true = inl refl
-either_way false = inr refl
 
 -- ---- total and transitive
 
@@ -120,11 +115,11 @@ false_less a b h = grind arith
 
 -- what is equal or below, and not equal or above, a third
 pub not_at_most : (a b c : Fraction) → is_at_most a b ≡ true → is_at_most c b ≡ false → is_at_most c a ≡ false
-not_at_most a b c h k = elim (either_way (is_at_most c a)) [ inl e ↦ absurd (true≢false (sym (at_most_through c a b e h) ∙ k)) | inr e ↦ e ]
+not_at_most a b c h k = elim (cases_Bool (is_at_most c a)) [ inl e ↦ absurd (true≢false (sym (at_most_through c a b e h) ∙ k)) | inr e ↦ e ]
 
 -- what is not at most a fraction is not at most one below it
 pub not_at_most_past : (a b c : Fraction) → is_at_most b c ≡ true → is_at_most b a ≡ false → is_at_most c a ≡ false
-not_at_most_past a b c h k = elim (either_way (is_at_most c a)) [ inl e ↦ absurd (true≢false (sym (at_most_through b c a h e) ∙ k)) | inr e ↦ e ]
+not_at_most_past a b c h k = elim (cases_Bool (is_at_most c a)) [ inl e ↦ absurd (true≢false (sym (at_most_through b c a h e) ∙ k)) | inr e ↦ e ]
 
 -- an integer has the denominator 1
 pub integer_den : (a : Fraction) → is_integer a ≡ true → a.den ≡ 1
@@ -136,7 +131,7 @@ den_integer a h = (Decides-eqb a.den 1).1 h
 
 -- one with another denominator is none
 pub no_integer : (a : Fraction) → (a.den ≡ 1 → ⊥) → is_integer a ≡ false
-no_integer a h = elim (either_way (is_integer a)) [ inl e ↦ absurd (h (integer_den a e)) | inr e ↦ e ]
+no_integer a h = elim (cases_Bool (is_integer a)) [ inl e ↦ absurd (h (integer_den a e)) | inr e ↦ e ]
 
 -- ---- sorting
 

@@ -1,4 +1,5 @@
 -- Numbers that stand for all numbers, found from the least end upwards.
+use Rattle.std.proofs.lemmas.Bool.{cases_Bool}
 use Rattle.std.proofs.Common.{zero, suc, ◌≡◌, ◌==◌, Bool, ap, refl, sym, subst, ◌∙◌, inl, inr, true, false, true≢false, List, [], ◌∷◌, ◌++◌, Option, Some, None, MatchOption, ◌≤◌, ◌+◌, length, length-append, arith}
 use Rattle.std.specs.List.{AllByRecursion, Contains}
 use Rattle.std.specs.Option.{option_to_list}
@@ -9,7 +10,7 @@ use Rattle.ls_points.specs.declared.numbers.GapNumbers.{GapNumbers}
 use Rattle.ls_points.specs.Numbers.{Fraction, fraction, is_at_most, is_integer, IsAtMost, CompareAlike, AreLike, AreStandIns, IsLess, gap_numbers, IsIntegerBetween, AreBetween, AreBelow, AreAbove, GoesUpTo}
 use Rattle.ls_points.specs.Some.{SomeOf}
 use Rattle.ls_points.proofs.FlatLemmas.{SomeOf-front, SomeOf-back, SomeOf-weaker}
-use Rattle.ls_points.proofs.FractionLemmas.{either_way, at_most_total, at_most_itself, at_most_through, at_most_equal, less_false, false_less, not_at_most, integer_den, den_integer, no_integer}
+use Rattle.ls_points.proofs.FractionLemmas.{at_most_total, at_most_itself, at_most_through, at_most_equal, less_false, false_less, not_at_most, integer_den, den_integer, no_integer}
 
 -- ---- likeness
 
@@ -87,7 +88,7 @@ module _ (least : Rat) where
 
   -- the numbers below the least end stand for all fractions below it
   low_some : (q : Fraction) (g : GapNumbers) → is_at_most (fraction least) q ≡ false → AreBelow least g → SomeOf (IsGood q) (gap_numbers g)
-  low_some q g h is = elim (either_way (is_integer q)) [
+  low_some q g h is = elim (cases_Bool (is_integer q)) [
     | inl e ↦ inr (low_integer q g.integer h e is.integer)
     | inr e ↦ inl (low q g.ratio h is.below (no_integer (fraction g.ratio) is.no_integer ∙ sym e))
   ]
@@ -96,7 +97,7 @@ module _ (least : Rat) where
   pub Stands-first : (g : GapNumbers) → AreBelow least g → Stands (least ∷ []) least (gap_numbers g ++ least ∷ [])
   Stands-first g is = record {
     most = (at_most_itself (fraction least), tt);
-    stands = λ q h. elim (either_way (is_at_most (fraction least) q)) [
+    stands = λ q h. elim (cases_Bool (is_at_most (fraction least) q)) [
       | inl e ↦ SomeOf-back (IsGood q) (gap_numbers g) (least ∷ []) (inl (at_most_itself (fraction least), same_like (least ∷ least ∷ []) (fraction least) q e h))
       | inr e ↦ SomeOf-front (IsGood q) (gap_numbers g) (least ∷ []) (low_some q g e is)
     ];
@@ -144,14 +145,14 @@ module _ (seen : List Rat) (last end : Rat) (numbers : List Rat) (so_far : Stand
 
   -- the numbers of the gap stand for all fractions in it
   gap_some : (q : Fraction) (g : GapNumbers) → is_at_most q (fraction last) ≡ false → is_at_most (fraction end) q ≡ false → AreBetween last end g → SomeOf (IsNext q) (gap_numbers g)
-  gap_some q g above below is = elim (either_way (is_integer q)) [
+  gap_some q g above below is = elim (cases_Bool (is_integer q)) [
     | inl e ↦ inr (gap_integer q g.integer above below e is.integer)
     | inr e ↦ inl (in_gap q g.ratio above below is.above is.below (no_integer (fraction g.ratio) is.no_integer ∙ sym e))
   ]
 
   -- with the next end they stand for all past the last end and up to the next
   past_last : (q : Fraction) (g : GapNumbers) → is_at_most q (fraction end) ≡ true → is_at_most q (fraction last) ≡ false → AreBetween last end g → SomeOf (IsNext q) (gap_numbers g ++ end ∷ [])
-  past_last q g h above is = elim (either_way (is_at_most (fraction end) q)) [
+  past_last q g h above is = elim (cases_Bool (is_at_most (fraction end) q)) [
     | inl e ↦ SomeOf-back (IsNext q) (gap_numbers g) (end ∷ []) (inl (at_most_itself (fraction end), same_like (end ∷ (seen ++ end ∷ [])) (fraction end) q e h))
     | inr e ↦ SomeOf-front (IsNext q) (gap_numbers g) (end ∷ []) (gap_some q g above e is)
   ]
@@ -160,7 +161,7 @@ module _ (seen : List Rat) (last end : Rat) (numbers : List Rat) (so_far : Stand
   Stands-next : (g : GapNumbers) → IsLess last end → AreBetween last end g → Stands (seen ++ end ∷ []) end (numbers ++ (gap_numbers g ++ end ∷ []))
   Stands-next g less is = record {
     most = most_pushed (less_most last end less);
-    stands = λ q h. elim (either_way (is_at_most q (fraction last))) [
+    stands = λ q h. elim (cases_Bool (is_at_most q (fraction last))) [
       | inl e ↦ SomeOf-front (IsNext q) numbers (gap_numbers g ++ end ∷ []) (SomeOf-weaker _ (IsNext q) (kept q less e) numbers (so_far.stands q e))
       | inr e ↦ SomeOf-back (IsNext q) numbers (gap_numbers g ++ end ∷ []) (past_last q g h e is)
     ];
@@ -209,14 +210,14 @@ module _ (seen : List Rat) (last : Rat) (numbers : List Rat) (so_far : Stands se
 
   -- the numbers above the greatest end stand for all fractions above it
   past_some : (q : Fraction) (g : GapNumbers) → is_at_most q (fraction last) ≡ false → AreAbove last g → SomeOf (IsRight q) (gap_numbers g)
-  past_some q g above is = elim (either_way (is_integer q)) [
+  past_some q g above is = elim (cases_Bool (is_integer q)) [
     | inl e ↦ inr (past_integer q g.integer above e is.integer)
     | inr e ↦ inl (past q g.ratio above is.above (no_integer (fraction g.ratio) is.no_integer ∙ sym e))
   ]
 
   -- for each fraction there is a number that stands for it
   some_right : (q : Fraction) (g : GapNumbers) → AreAbove last g → SomeOf (IsRight q) (numbers ++ gap_numbers g)
-  some_right q g is = elim (either_way (is_at_most q (fraction last))) [
+  some_right q g is = elim (cases_Bool (is_at_most q (fraction last))) [
     | inl e ↦ SomeOf-front (IsRight q) numbers (gap_numbers g) (SomeOf-weaker _ (IsRight q) (λ r (most, like). (like.0.1, like.1)) numbers (so_far.stands q e))
     | inr e ↦ SomeOf-back (IsRight q) numbers (gap_numbers g) (past_some q g e is)
   ]
@@ -234,7 +235,7 @@ none_integer start q (Some r) e is = inl (tt, den_integer (fraction r) is.1 ∙ 
 
 -- a ratio and an integer stand for all
 pub AreStandIns-none : (start : Rat) (g : GapNumbers) → AreAbove start g → AreStandIns [] (gap_numbers g)
-AreStandIns-none start g is q = some_contained (λ r. AreLike [] (fraction r) q) (gap_numbers g) (elim (either_way (is_integer q)) [
+AreStandIns-none start g is q = some_contained (λ r. AreLike [] (fraction r) q) (gap_numbers g) (elim (cases_Bool (is_integer q)) [
   | inl e ↦ inr (none_integer start q g.integer e is.integer)
   | inr e ↦ inl (tt, no_integer (fraction g.ratio) is.no_integer ∙ sym e)
 ])

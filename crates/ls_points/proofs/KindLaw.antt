@@ -1,4 +1,5 @@
 -- The opaque objects that stand for all opaque objects.
+use Rattle.std.proofs.lemmas.Bool.{cases_Bool}
 use Rattle.std.proofs.Common.{◌≡◌, ◌≤◌, ◌+◌, refl, sym, subst, ◌∙◌, ◌⊎◌, inl, inr, Bool, true, false, not, ◌&&◌, if◌then◌else◌, true≢false, List, [], ◌∷◌, ◌++◌, map, length, Option, Some, None, MatchOption, arith, length-append, append_assoc}
 use Rattle.std.specs.List.{AllByRecursion}
 use Rattle.std.specs.Option.{option_to_list}
@@ -22,10 +23,6 @@ use Rattle.ls_points.specs.Kinds.{named_kind, named_kinds, is_in_none}
 use Rattle.ls_points.specs.declared.kinds.TheConstants.{KINDS}
 use Rattle.ls_points.specs.Some.{SomeOf}
 use Rattle.ls_points.proofs.FlatLemmas.{SomeOf-front, SomeOf-back, SomeOf-weaker, AreAlike, AreAlike-itself, represented, all_answered, count_answered}
-
-either_way : (b : Bool) → (b ≡ true) ⊎ (b ≡ false)
-either_way true = inl refl
-either_way false = inr refl
 
 abbrev is_kind_flat : (k : Kind) → Unit {0}
 is_kind_flat k = tt
@@ -92,7 +89,7 @@ held_by k (satisfies _) is h = cc
 -- a kind is named, is OTHER-STRUCTURE, or is in none of the atoms
 named_or_in_none : (k : Kind) (atoms : List Spec) → AllByRecursion (λ a. IsFitAtom (specifier a)) atoms → SomeOf (λ j. j ≡ k) (named_kinds atoms) ⊎ (k ≡ OtherStructure) ⊎ (is_in_none k atoms ≡ true)
 named_or_in_none k [] fit = inr (inr refl)
-named_or_in_none k (a ∷ more) fit = elim (either_way (holds nothing_learnt (specifier a) (node [] (opaque k)))) [
+named_or_in_none k (a ∷ more) fit = elim (cases_Bool (holds nothing_learnt (specifier a) (node [] (opaque k)))) [
   | inl held ↦ elim (held_by k (specifier a) fit.0.0 held) [
     | inl named ↦ inl (SomeOf-front (λ j. j ≡ k) (named_kind (specifier a)) (named_kinds more) named)
     | inr other ↦ inr (inl other)

@@ -1,4 +1,5 @@
 -- The structures that stand for all structures of a file.
+use Rattle.std.proofs.lemmas.Bool.{cases_Bool}
 use Rattle.std.proofs.Common.{zero, ◌≡◌, ◌≤◌, ◌+◌, ap, refl, sym, subst, ◌∙◌, ◌⊎◌, inl, inr, ◌↔◌, Bool, true, false, if◌then◌else◌, List, [], ◌∷◌, ◌++◌, map, length, Option, Some, None, MatchOption, arith, length-append, append_assoc, append-nil}
 use Rattle.std.specs.List.{AllByRecursion, Contains}
 use Rattle.std.specs.Option.{option_to_list, ForSome}
@@ -24,10 +25,6 @@ use Rattle.ls_points.specs.Inheriting.{IsStructure, IsFitAtomOf, named_structure
 use Rattle.ls_points.specs.Some.{SomeOf}
 use Rattle.ls_points.proofs.AnsweredLemmas.{find_answered, each_answered, as_many_answered}
 use Rattle.ls_points.proofs.FlatLemmas.{SomeOf-front, SomeOf-back, SomeOf-weaker}
-
-either_way : (b : Bool) → (b ≡ true) ⊎ (b ≡ false)
-either_way true = inl refl
-either_way false = inr refl
 
 -- ---- one entry a name
 
@@ -75,7 +72,7 @@ module _ (all : Structures) (names : List Symbol) (order : IsInclusionOrder all)
 
   decided : (x : Symbol) (list : List Symbol) → IsOneOf x list ⊎ (IsOneOf x list → ⊥)
   decided x [] = inr (λ h. h)
-  decided x (y ∷ ys) = elim (either_way (same_symbol y x)) [
+  decided x (y ∷ ys) = elim (cases_Bool (same_symbol y x)) [
     | inl same ↦ inl (inl ((Decides-symbol y x).0 same))
     | inr apart ↦ elim (decided x ys) [
       | inl there ↦ inl (inr there)

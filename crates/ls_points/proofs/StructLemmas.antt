@@ -1,4 +1,5 @@
 -- Keys of structure names, and specifiers of structures part by part.
+use Rattle.std.proofs.lemmas.Bool.{cases_Bool}
 use Rattle.std.proofs.Common.{ℕ, zero, suc, ◌≡◌, ◌<◌, ap, refl, sym, subst, ◌∙◌, ◌⊎◌, inl, inr, Bool, true, false, ◌||◌, if◌then◌else◌, nat_eq, List, [], ◌∷◌, ◌++◌, length, get_or, Decides, Vec, arith}
 use Rattle.std.specs.List.{AllByRecursion, Contains, list_any}
 use Rattle.std.specs.Cmp.Lexicographic.{pointwise}
@@ -12,10 +13,6 @@ use Rattle.ls_spec.proofs.KeyLemmas.{same_symbol_key}
 use Rattle.ls_spec.proofs.ListLemmas.{AllByRecursion-contains}
 use Rattle.ls_spec.proofs.TruthLemmas.{Decides-text}
 use Rattle.ls_points.specs.Inheriting.{IsOneOf, has_key, is_key_of, AddsKeys}
-
-either_way : (b : Bool) → (b ≡ true) ⊎ (b ≡ false)
-either_way true = inl refl
-either_way false = inr refl
 
 -- ---- parts
 
@@ -47,7 +44,7 @@ none_of structures o (s ∷ ss) h (inr there) = none_of structures o ss h.1 ther
 
 any_append : {Y : Type 0} (k : List ℕ) (xs ys : List (Vec ℕ Y)) → has_key (xs ++ ys) k ≡ (has_key xs k || has_key ys k)
 any_append k [] ys = refl
-any_append k (x ∷ xs) ys = let e = any_append k xs ys in elim (either_way (pointwise nat_eq k x.items)) [ inl t ↦ cc | inr t ↦ cc ]
+any_append k (x ∷ xs) ys = let e = any_append k xs ys in elim (cases_Bool (pointwise nat_eq k x.items)) [ inl t ↦ cc | inr t ↦ cc ]
 
 or_true : (a b : Bool) → a ≡ true → a ≡ (a || b)
 or_true a b e = cc
@@ -58,7 +55,7 @@ or_false false b e = sym e
 
 -- the key that was added is there, and the others as before
 one_added : {Y : Type 0} (keys : List (Vec ℕ Y)) (v : Vec ℕ Y) (b : Bool) → has_key keys v.items ≡ b → (k : List ℕ) → has_key (if b then keys else keys ++ v ∷ []) k ≡ (has_key keys k || (pointwise nat_eq k v.items || false))
-one_added keys v true e k = elim (either_way (pointwise nat_eq k v.items)) [
+one_added keys v true e k = elim (cases_Bool (pointwise nat_eq k v.items)) [
   | inl same ↦ or_true (has_key keys k) _ (subst (λ t. has_key keys t ≡ true) (sym ((Decides-text k v.items).0 same)) e)
   | inr apart ↦ or_false (has_key keys k) _ (ap (λ b. b || false) apart)
 ]
@@ -71,13 +68,13 @@ AddsKeys-one keys new v name e f k =
 Decides-key : (x : Symbol) (names : List Symbol) → Decides (is_key_of names (symbol_key x)) (IsOneOf x names)
 Decides-key x [] = (λ e. cc, λ h. absurd h)
 Decides-key x (y ∷ ys) = (
-  λ e. elim (either_way (pointwise nat_eq (symbol_key x) (symbol_key y))) [
+  λ e. elim (cases_Bool (pointwise nat_eq (symbol_key x) (symbol_key y))) [
     | inl same ↦ inl (sym (same_symbol_key x y ((Decides-text (symbol_key x) (symbol_key y)).0 same)))
     | inr apart ↦ inr ((Decides-key x ys).0 (sym (ap (λ b. b || is_key_of ys (symbol_key x)) apart) ∙ e))
   ],
   λ h. elim h [
     | inl same ↦ ap (λ b. b || is_key_of ys (symbol_key x)) ((Decides-text (symbol_key x) (symbol_key y)).1 (ap symbol_key (sym same)))
-    | inr later ↦ elim (either_way (pointwise nat_eq (symbol_key x) (symbol_key y))) [
+    | inr later ↦ elim (cases_Bool (pointwise nat_eq (symbol_key x) (symbol_key y))) [
       | inl same ↦ ap (λ b. b || is_key_of ys (symbol_key x)) same
       | inr apart ↦ ap (λ b. b || is_key_of ys (symbol_key x)) apart ∙ (Decides-key x ys).1 later
     ]

@@ -1,4 +1,5 @@
 -- The symbols that stand for all symbols.
+use Rattle.std.proofs.lemmas.Bool.{cases_Bool}
 use Rattle.std.proofs.Common.{ℕ, zero, suc, ◌≡◌, ◌<◌, ◌≤◌, ◌+◌, ap, refl, sym, subst, ◌∙◌, ◌⊎◌, inl, inr, Bool, true, false, ◌&&◌, if◌then◌else◌, List, [], ◌∷◌, ◌++◌, map, length, replicate, get_or, take, arith, length-append, append_assoc}
 use Rattle.std.specs.Char.{IsScalar}
 use Rattle.std.specs.List.{AllByRecursion}
@@ -28,10 +29,6 @@ use Rattle.ls_points.specs.Classes.{IsSymbol, IsFitAtom, is_symbol_point, count_
 use Rattle.ls_points.specs.Symbols.{named_symbol, named_symbols, keyword_past, symbol_past, AreShort}
 use Rattle.ls_points.specs.Some.{SomeOf}
 use Rattle.ls_points.proofs.FlatLemmas.{SomeOf-front, SomeOf-back, AreAlike, AreAlike-itself, represented, all_answered, count_answered}
-
-either_way : (b : Bool) → (b ≡ true) ⊎ (b ≡ false)
-either_way true = inl refl
-either_way false = inr refl
 
 -- ---- names
 
@@ -105,7 +102,7 @@ alike s t (a ∷ more) same fit m n = (
 longer_none : (n : ℕ) (s : Symbol) (symbols : List Symbol) → length s.name ≡ n + 1 → AreShort n symbols → IsNoneOf s symbols
 longer_none n s [] e h = tt
 longer_none n s (t ∷ ts) e h = (
-  elim (either_way (same_symbol s t)) [
+  elim (cases_Bool (same_symbol s t)) [
     | inl same ↦ (let f = ap (λ u. length u.name) ((Decides-symbol s t).0 same) in let l = h.0 in absurd (omega arith))
     | inr apart ↦ apart
   ],
@@ -115,7 +112,7 @@ longer_none n s (t ∷ ts) e h = (
 -- a symbol is one of these or none
 named_or_none : (s : Symbol) (atoms : List Spec) (symbols : List Symbol) → SomeOf (λ u. AreAlike symbol is_symbol_flat atoms u s) symbols ⊎ IsNoneOf s symbols
 named_or_none s atoms [] = inr tt
-named_or_none s atoms (t ∷ ts) = elim (either_way (same_symbol s t)) [
+named_or_none s atoms (t ∷ ts) = elim (cases_Bool (same_symbol s t)) [
   | inl same ↦ inl (inl (subst (λ u. AreAlike symbol is_symbol_flat atoms u s) ((Decides-symbol s t).0 same) (AreAlike-itself symbol is_symbol_flat atoms s)))
   | inr apart ↦ elim (named_or_none s atoms ts) [ inl some ↦ inl (inr some) | inr none ↦ inr (apart, none) ]
 ]
@@ -136,7 +133,7 @@ module _ (atoms : List Spec) (n : ℕ) (fit : AllByRecursion (λ a. IsFitAtom (s
   covered : (s : Symbol) → SomeOf (λ u. AreAlike symbol is_symbol_flat atoms u s) (stand_ins (named_symbols atoms) n)
   covered s = elim (named_or_none s atoms (named_symbols atoms)) [
     | inl some ↦ SomeOf-front _ (named_symbols atoms) _ some
-    | inr none ↦ SomeOf-back _ (named_symbols atoms) _ (elim (either_way (is_of_symbol_class Keyword s)) [
+    | inr none ↦ SomeOf-back _ (named_symbols atoms) _ (elim (cases_Bool (is_of_symbol_class Keyword s)) [
       | inl e ↦ inl (alike (keyword_past n) s atoms (same_as_keyword s n e) fit (longer_none n (keyword_past n) (named_symbols atoms) (length-replicate (n + 1) 65) short) none)
       | inr e ↦ inr (inl (alike (symbol_past n) s atoms (same_as_symbol s n e) fit (longer_none n (symbol_past n) (named_symbols atoms) (length-replicate (n + 1) 65) short) none))
     ])

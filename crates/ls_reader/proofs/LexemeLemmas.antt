@@ -1,4 +1,5 @@
 -- The function `lexeme` finds a lexeme at the front of a text exactly where one stands there.
+use Rattle.std.specs.List.{prefix_len}
 use Rattle.std.proofs.Common.{◌≡◌, ◌≢◌, ◌<◌, ◌≤◌, ℕ, Bool, true, false, eqb, List, [], ◌∷◌, ◌++◌, length, take, drop, Some, None, Result, Ok, Err, refl, sym, ap, subst, ◌∙◌, ◌||◌, append_assoc, arith, nat_lt}
 use Rattle.std.proofs.lemmas.Bool.{eqb-true, eq-eqb, ne_eqb, cond_both, false≢true, lt-ltb, and_left, or_left, or_right}
 use Rattle.std.proofs.lemmas.Bool.Decides.{nat_tests}
@@ -18,7 +19,7 @@ use Rattle.ls_reader.specs.declared.token.Bracket.TheVariants as bracket
 use Rattle.ls_reader.specs.declared.token.Mark.TheVariants as mark
 use Rattle.ls_reader.specs.declared.word.Role.{Role}
 use Rattle.ls_reader.specs.declared.word.Role.TheVariants as role
-use Rattle.ls_reader.specs.Characters.{is_blank, is_terminating, is_constituent, is_digit, is_not_newline, goes_on, begins_token, syntax_of, run_len}
+use Rattle.ls_reader.specs.Characters.{is_blank, is_terminating, is_constituent, is_digit, is_not_newline, goes_on, begins_token, syntax_of}
 use Rattle.ls_reader.specs.CharNames.{character}
 use Rattle.ls_reader.specs.Comments.{CommentPart, closes, part_text, comment_text, comment}
 use Rattle.ls_reader.specs.Macros.{sign_token, is_splice, construct_of, numbered_construct, plain_construct, is_not_kept}
@@ -79,16 +80,16 @@ last_macro : (c : ℕ) → is_terminating c ≡ true → eqb c 40 ≡ false → 
 last_macro c t a b d e f g = grind (arith, nat_tests)
 
 -- a comment up to the end of the line
-line_sound : (cs : List ℕ) → Sound (59 ∷ cs) (Ok (token.Gap, drop (run_len is_not_newline cs) cs))
+line_sound : (cs : List ℕ) → Sound (59 ∷ cs) (Ok (token.Gap, drop (prefix_len is_not_newline cs) cs))
 line_sound cs =
-    let n = run_len is_not_newline cs in
+    let n = prefix_len is_not_newline cs in
     stands (line (take n cs)) (59 ∷ cs) (drop n cs) (run_is is_not_newline cs) (ap (λ (x : List ℕ). 59 ∷ x) (sym (take-append-drop n cs)))
 
 -- a comma, a comment or a string
 other_sound : (c : ℕ) (cs : List ℕ) → (eqb c 44 ≡ false → eqb c 59 ≡ false → c ≡ 34) → Sound (c ∷ cs) (other_macro c cs)
 other_sound c cs q =
     cond_both (eqb c 44) _ _ (Sound (c ∷ cs)) (λ e. subst (λ (k : ℕ). Sound (k ∷ cs) (Ok (comma cs))) (sym (eqb-true c 44 e)) (comma_sound cs)) (λ e.
-    cond_both (eqb c 59) _ _ (Sound (c ∷ cs)) (λ f. subst (λ (k : ℕ). Sound (k ∷ cs) (Ok (token.Gap, drop (run_len is_not_newline cs) cs))) (sym (eqb-true c 59 f)) (line_sound cs))
+    cond_both (eqb c 59) _ _ (Sound (c ∷ cs)) (λ f. subst (λ (k : ℕ). Sound (k ∷ cs) (Ok (token.Gap, drop (prefix_len is_not_newline cs) cs))) (sym (eqb-true c 59 f)) (line_sound cs))
     (λ f. subst (λ (k : ℕ). Sound (k ∷ cs) (as_string (content false cs))) (sym (q e f)) (string_sound cs (content false cs) (strings.content_reads false cs))))
 
 -- a terminating macro character
@@ -198,7 +199,7 @@ comment_sound_by cs (Err x) h =
 character_sound : (cs : List ℕ) → Sound (35 ∷ 92 ∷ cs) (character_at cs)
 character_sound [] = stuck (35 ∷ 92 ∷ []) Unclosed 0 (begins_sharp (92 ∷ [])) refl refl refl
 character_sound (c ∷ cs) =
-    let n = run_len is_constituent cs in
+    let n = prefix_len is_constituent cs in
     stands (character_of c (take n cs)) (35 ∷ 92 ∷ c ∷ cs) (drop n cs) (run_is is_constituent cs) (ap (λ (x : List ℕ). 35 ∷ 92 ∷ c ∷ x) (sym (take-append-drop n cs)))
 
 -- a construct behind `#`
@@ -223,7 +224,7 @@ counted_sound digits (c ∷ cs) h = construct_sound (construct_of (is_counted di
 -- what stands behind `#`
 sharp_sound : (cs : List ℕ) → Sound (35 ∷ cs) (sharpsign cs)
 sharp_sound cs =
-    let n = run_len is_digit cs in
+    let n = prefix_len is_digit cs in
     let count : length (take n cs) ≡ n = taken_length n cs (run_within is_digit cs) in
     subst (λ (x : List ℕ). Sound (35 ∷ x) (sharpsign cs)) (take-append-drop n cs)
     (subst (λ (m : ℕ). Sound (35 ∷ (take n cs ++ drop n cs)) (behind_count (nat_lt 0 m) (drop n cs))) count (counted_sound (take n cs) (drop n cs) (run_is is_digit cs)))
@@ -233,7 +234,7 @@ sharp_sound cs =
 -- the lexeme of a character of a type
 by_type : (s : Syntax) (c : ℕ) (cs : List ℕ) → syntax_of c ≡ s → Sound (c ∷ cs) (lexeme_by s c cs)
 by_type syntax_type.Whitespace c cs e =
-    let n = run_len is_blank cs in
+    let n = prefix_len is_blank cs in
     stands (blanks (c ∷ take n cs)) (c ∷ cs) (drop n cs) ((λ h. cc), ((whitespace_is c e, (run_is is_blank cs).0), (run_is is_blank cs).1)) (ap (λ (x : List ℕ). c ∷ x) (sym (take-append-drop n cs)))
 by_type syntax_type.Invalid c cs e = ([], invalid (rw e refl) refl refl, refl, omega arith)
 by_type syntax_type.Terminating c cs e = macro_sound c cs (terminating_is c e)
@@ -255,7 +256,7 @@ lexeme_sound (c ∷ cs) = by_type (syntax_of c) c cs refl
 -- ---- a lexeme is what the function finds
 
 -- a run and what follows it
-run_again : (p : ℕ → Bool) (text rest : List ℕ) → IsRun p text rest → drop (run_len p (text ++ rest)) (text ++ rest) ≡ rest
+run_again : (p : ℕ → Bool) (text rest : List ℕ) → IsRun p text rest → drop (prefix_len p (text ++ rest)) (text ++ rest) ≡ rest
 run_again p text rest h = rw (run_len-is p text rest h) (drop_at text rest (length text) refl)
 
 -- brackets, the quote and the backquote end the token before them

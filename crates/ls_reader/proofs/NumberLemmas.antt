@@ -11,6 +11,7 @@ use Rattle.std.proofs.Math.Bridge.{le_prop}
 use Rattle.std.proofs.Math.Nat.{∣_prop, min-eq_left, min-eq_right, mul-div_cancel_left, le-mul_of_pos_right, zero-lt-suc, pos_of_dvd_of_pos}
 use Rattle.std.proofs.Math.Path.{path_j}
 use Rattle.std.proofs.Math.IntN.{+ℤ_idl, pos-*ℤ-pos, pos-*ℤ-negsuc}
+use Rattle.ls_object.proofs.RatLemmas.{same_rat}
 use Rattle.ls_object.specs.declared.rat.Rat.{Rat}
 use Rattle.ls_object.specs.Ratio.{IsReduced}
 use Rattle.ls_reader.specs.declared.datum.Literal.{Literal}
@@ -18,28 +19,6 @@ use Rattle.ls_reader.specs.declared.datum.Literal.TheVariants as literal
 use Rattle.ls_reader.specs.CharNames.{is_scalar, scalar}
 use Rattle.ls_reader.specs.Fractions.{signed, abs-signed, divisor, rational, is_narrow, literal_when, literal_of}
 use Rattle.ls_reader.specs.Numbers.{weight, value_on, number, fraction}
-
--- ---- rationals
-
--- what holds of the numerator and the denominator of a rational
-abbrev Facts : ℤ → ℕ → Type 0
-Facts z d = (0 < d) × IsGcd (unsigned_abs z) d 1 × (unsigned_abs z < 2 ^ 66) × (d ≤ 2 ^ 61)
-
--- these facts are propositions
-Facts-prop : (z : ℤ) (d : ℕ) → IsProp (Facts z d)
-Facts-prop z d = hlevel (le_prop, ∣_prop)
-
--- a rational by its facts
-abbrev with_facts : (z : ℤ) (d : ℕ) → Facts z d → Rat
-with_facts z d f = record { num = z; den = d; positive = f.0; lowest = f.1; num_fits = f.2; den_fits = f.3 }
-
--- a rational is determined by its numerator and its denominator
-pub same_rat : (a b : Rat) → a.num ≡ b.num → a.den ≡ b.den → a ≡ b
-same_rat a b p q =
-    path_j (λ z _. (d : ℕ) → a.den ≡ d → (f : Facts z d) → a ≡ with_facts z d f)
-    (λ d e. path_j (λ n _. (f : Facts a.num n) → a ≡ with_facts a.num n f)
-    (λ f. ap (with_facts a.num a.den) (Facts-prop a.num a.den (a.positive, a.lowest, a.num_fits, a.den_fits) f)) e)
-    p b.den q (b.positive, b.lowest, b.num_fits, b.den_fits)
 
 -- ---- the reduced fraction
 

@@ -1,31 +1,32 @@
 -- Runs of characters of a class, and the syntax types of characters.
-use Rattle.std.proofs.Common.{◌≡◌, ◌≢◌, ◌≤◌, ◌+◌, ℕ, Bool, true, false, eqb, List, [], ◌∷◌, ◌++◌, length, take, drop, refl, sym, ap, ◌∙◌, add-one, arith, length-take, nat_lt}
+use Rattle.std.specs.List.{prefix_len}
+use Rattle.std.proofs.Common.{◌≡◌, ◌≢◌, ◌≤◌, ◌+◌, ℕ, Bool, true, false, eqb, List, [], ◌∷◌, ◌++◌, length, take, drop, refl, sym, ap, ◌∙◌, one-add, arith, length-take, nat_lt}
 use Rattle.std.proofs.lemmas.Bool.{eqb-true, cond_both, false≢true}
 use Rattle.ls_reader.specs.declared.character.Syntax.{Syntax}
 use Rattle.ls_reader.specs.declared.character.Syntax.TheVariants as syntax_type
-use Rattle.ls_reader.specs.Characters.{is_blank, is_terminating, is_plain, is_constituent, syntax_of, run_len}
+use Rattle.ls_reader.specs.Characters.{is_blank, is_terminating, is_plain, is_constituent, syntax_of}
 use Rattle.ls_reader.specs.Lexemes.{IsRun}
 
 -- ---- runs
 
 -- the run that comes first is one
-pub run_is : (p : ℕ → Bool) (cs : List ℕ) → IsRun p (take (run_len p cs) cs) (drop (run_len p cs) cs)
+pub run_is : (p : ℕ → Bool) (cs : List ℕ) → IsRun p (take (prefix_len p cs) cs) (drop (prefix_len p cs) cs)
 run_is p [] = (tt, tt)
 run_is p (c ∷ cs) =
-    cond_both (p c) (run_len p cs + 1) 0 (λ n. IsRun p (take n (c ∷ cs)) (drop n (c ∷ cs)))
-    (λ e. rw add-one ((e, (run_is p cs).0), (run_is p cs).1))
+    cond_both (p c) (1 + prefix_len p cs) 0 (λ n. IsRun p (take n (c ∷ cs)) (drop n (c ∷ cs)))
+    (λ e. rw one-add ((e, (run_is p cs).0), (run_is p cs).1))
     (λ e. (tt, e))
 
 -- a run that comes first is found
-pub run_len-is : (p : ℕ → Bool) (text rest : List ℕ) → IsRun p text rest → run_len p (text ++ rest) ≡ length text
+pub run_len-is : (p : ℕ → Bool) (text rest : List ℕ) → IsRun p text rest → prefix_len p (text ++ rest) ≡ length text
 run_len-is p [] [] h = refl
 run_len-is p [] (c ∷ cs) h = rw h.1 refl
 run_len-is p (c ∷ cs) rest h = rw (h.0.0, run_len-is p cs rest (h.0.1, h.1)) (omega arith)
 
 -- a run is within the text
-pub run_within : (p : ℕ → Bool) (cs : List ℕ) → run_len p cs ≤ length cs
+pub run_within : (p : ℕ → Bool) (cs : List ℕ) → prefix_len p cs ≤ length cs
 run_within p [] = omega arith
-run_within p (c ∷ cs) = cond_both (p c) (run_len p cs + 1) 0 (λ n. n ≤ length (c ∷ cs)) (λ _. omega (arith, run_within p cs)) (λ _. omega arith)
+run_within p (c ∷ cs) = cond_both (p c) (1 + prefix_len p cs) 0 (λ n. n ≤ length (c ∷ cs)) (λ _. omega (arith, run_within p cs)) (λ _. omega arith)
 
 -- the length of a front
 pub taken_length : (n : ℕ) (cs : List ℕ) → n ≤ length cs → length (take n cs) ≡ n

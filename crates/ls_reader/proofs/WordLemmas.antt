@@ -1,6 +1,6 @@
 -- The signs of a token are read from its text, character by character.
-use Rattle.std.proofs.Common.{◌≡◌, ◌≢◌, ◌+◌, ℕ, Bool, true, false, ◌||◌, eqb, List, [], ◌∷◌, ◌++◌, map, length, take, drop, Result, Ok, Err, refl, sym, ap, subst, ◌∙◌, inl, inr, append_assoc, add-one, arith}
-use Rattle.std.specs.List.{AllByRecursion}
+use Rattle.std.proofs.Common.{◌≡◌, ◌≢◌, ◌+◌, ℕ, Bool, true, false, ◌||◌, eqb, List, [], ◌∷◌, ◌++◌, map, length, take, drop, Result, Ok, Err, refl, sym, ap, subst, ◌∙◌, inl, inr, append_assoc, one-add, arith}
+use Rattle.std.specs.List.{AllByRecursion, prefix_len}
 use Rattle.std.proofs.lemmas.Bool.{eqb-true, eqb-false, ne_eqb, cond_both, or_parts, and_left, and_right, and_cases, false≢true}
 use Rattle.ls_reader.specs.declared.fault.FaultKind.{FaultKind}
 use Rattle.ls_reader.specs.declared.fault.FaultKind.TheVariants.{Unclosed}
@@ -10,7 +10,7 @@ use Rattle.ls_reader.specs.declared.token.Token.{Token}
 use Rattle.ls_reader.specs.declared.word.Role.{Role}
 use Rattle.ls_reader.specs.declared.word.Mode.{Mode}
 use Rattle.ls_reader.specs.declared.word.Mode.TheVariants.{Outside, Single, Bars, BarsSingle}
-use Rattle.ls_reader.specs.Characters.{is_constituent, is_sign, goes_on, begins_token, syntax_of, run_len}
+use Rattle.ls_reader.specs.Characters.{is_constituent, is_sign, goes_on, begins_token, syntax_of}
 use Rattle.ls_reader.specs.Strings.{Inner, bare, escaped, inner_text, inners_text, IsInner}
 use Rattle.ls_reader.specs.Tokens.{Part, constituent, single, barred, part_text, parts_text, IsPart, exact, part_signs, signs_of, are_plain, plain_text, plain_token, plain_word, escaped_word, word}
 use Rattle.ls_reader.specs.Lexing.{Fault, at_front, after_step, with_sign, scan, as_word, word_at, word_behind, begins_escape, may_be_number}
@@ -274,18 +274,18 @@ unfolding word
 no_word role = refl
 
 -- the signs of a run of constituents that no escape follows
-plain_scan : (cs : List ℕ) → begins_escape (drop (run_len is_constituent cs) cs) ≡ false → scan Outside cs ≡ Ok (map Plain (take (run_len is_constituent cs) cs), drop (run_len is_constituent cs) cs)
+plain_scan : (cs : List ℕ) → begins_escape (drop (prefix_len is_constituent cs) cs) ≡ false → scan Outside cs ≡ Ok (map Plain (take (prefix_len is_constituent cs) cs), drop (prefix_len is_constituent cs) cs)
 unfolding scan
 plain_scan [] = λ h. refl
 plain_scan (c ∷ cs) =
-    cond_both (is_constituent c) (run_len is_constituent cs + 1) 0 (λ n. begins_escape (drop n (c ∷ cs)) ≡ false → scan Outside (c ∷ cs) ≡ Ok (map Plain (take n (c ∷ cs)), drop n (c ∷ cs)))
-    (λ e. rw add-one (λ h. rw (e, plain_scan cs h) refl))
+    cond_both (is_constituent c) (1 + prefix_len is_constituent cs) 0 (λ n. begins_escape (drop n (c ∷ cs)) ≡ false → scan Outside (c ∷ cs) ≡ Ok (map Plain (take n (c ∷ cs)), drop n (c ∷ cs)))
+    (λ e. rw one-add (λ h. rw (e, plain_scan cs h) refl))
     (λ e h. let k = or_parts (eqb c 92) (eqb c 124) h in rw (e, k.0, k.1) refl)
 
 -- a run of constituents that no escape follows is a token
-pub plain_at : (role : Role) (cs : List ℕ) → begins_escape (drop (run_len is_constituent cs) cs) ≡ false
-    → word_at role cs ≡ Ok (plain_word role (take (run_len is_constituent cs) cs), drop (run_len is_constituent cs) cs)
-plain_at role cs h = rw (plain_scan cs h) (ap (λ (t : Token). Ok (t, drop (run_len is_constituent cs) cs)) (plain_word_is role (take (run_len is_constituent cs) cs)))
+pub plain_at : (role : Role) (cs : List ℕ) → begins_escape (drop (prefix_len is_constituent cs) cs) ≡ false
+    → word_at role cs ≡ Ok (plain_word role (take (prefix_len is_constituent cs) cs), drop (prefix_len is_constituent cs) cs)
+plain_at role cs h = rw (plain_scan cs h) (ap (λ (t : Token). Ok (t, drop (prefix_len is_constituent cs) cs)) (plain_word_is role (take (prefix_len is_constituent cs) cs)))
 
 -- the token has an escape
 abbrev HasEscape : Result (List Sign × List ℕ) FaultKind → Type 0
@@ -314,12 +314,12 @@ escape_single [] = tt
 escape_single (c ∷ cs) = escape_exact c (scan Outside cs)
 
 -- an escape behind a run of constituents
-escaped_scan : (cs : List ℕ) → begins_escape (drop (run_len is_constituent cs) cs) ≡ true → HasEscape (scan Outside cs)
+escaped_scan : (cs : List ℕ) → begins_escape (drop (prefix_len is_constituent cs) cs) ≡ true → HasEscape (scan Outside cs)
 unfolding scan
 escaped_scan [] = λ h. absurd (false≢true h)
 escaped_scan (c ∷ cs) =
-    cond_both (is_constituent c) (run_len is_constituent cs + 1) 0 (λ n. begins_escape (drop n (c ∷ cs)) ≡ true → HasEscape (scan Outside (c ∷ cs)))
-    (λ e. rw add-one (λ h. rw e (escape_plain c (scan Outside cs) (escaped_scan cs h))))
+    cond_both (is_constituent c) (1 + prefix_len is_constituent cs) 0 (λ n. begins_escape (drop n (c ∷ cs)) ≡ true → HasEscape (scan Outside (c ∷ cs)))
+    (λ e. rw one-add (λ h. rw e (escape_plain c (scan Outside cs) (escaped_scan cs h))))
     (λ e h. rw e (
     cond_both (eqb c 92) _ _ (λ s. HasEscape (after_step s (c ∷ cs) (λ next. scan next cs))) (λ f. escape_single cs) (λ f.
     cond_both (eqb c 124) _ _ (λ s. HasEscape (after_step s (c ∷ cs) (λ next. scan next cs))) (λ g. escape_bars (scan Bars cs))
@@ -336,7 +336,7 @@ escaped_by role (Ok y) x h e = let same : y ≡ x = cc in ap (λ (t : Token). Ok
 escaped_by role (Err k) x h e = cc
 
 -- a run of constituents that an escape follows begins a token with escapes
-pub escaped_at : (role : Role) (cs : List ℕ) (x : List Sign × List ℕ) → begins_escape (drop (run_len is_constituent cs) cs) ≡ true → at_front (scan Outside cs) ≡ Ok x → word_at role cs ≡ Ok (escaped_word role x.0, x.1)
+pub escaped_at : (role : Role) (cs : List ℕ) (x : List Sign × List ℕ) → begins_escape (drop (prefix_len is_constituent cs) cs) ≡ true → at_front (scan Outside cs) ≡ Ok x → word_at role cs ≡ Ok (escaped_word role x.0, x.1)
 escaped_at role cs x h e = escaped_by role (scan Outside cs) x (escaped_scan cs h) e
 
 -- the fault of signs

@@ -52,8 +52,3 @@ is_digit c = nat_le 48 c && nat_le c 57
 -- plus or minus
 abbrev pub is_sign : ℕ → Bool
 is_sign c = c == 43 || c == 45
-
--- how many from the first on are of a class
-abbrev pub run_len : {A : Type 0} → (A → Bool) → List A → ℕ
-run_len p [] = 0
-run_len p (x ∷ xs) = if p x then run_len p xs + 1 else 0

@@ -1,5 +1,6 @@
 -- The lexeme at the front of a text, from left to right (2.2). Nothing of this needs to be believed: it is what the
 -- code does, and the lexemes of Lexemes.antt are proved of it.
+use Rattle.std.specs.List.{prefix_len}
 use Rattle.std.specs.Prelude.{ℕ, Bool, true, false, if◌then◌else◌, ◌==◌, ◌||◌, ◌≡◌, nat_lt, List, [], ◌∷◌, take, drop, Option, Some, None, Result, Ok, Err}
 use Rattle.ls_reader.specs.declared.character.Syntax.{Syntax}
 use Rattle.ls_reader.specs.declared.character.Syntax.TheVariants as syntax_type
@@ -22,7 +23,7 @@ use Rattle.ls_reader.specs.declared.word.Mode.{Mode}
 use Rattle.ls_reader.specs.declared.word.Mode.TheVariants.{Outside, Single, Bars, BarsSingle}
 use Rattle.ls_reader.specs.declared.word.Step.{Step}
 use Rattle.ls_reader.specs.declared.word.Step.TheVariants.{End, Skip, Keep}
-use Rattle.ls_reader.specs.Characters.{is_blank, is_constituent, is_digit, is_not_newline, is_sign, syntax_of, run_len}
+use Rattle.ls_reader.specs.Characters.{is_blank, is_constituent, is_digit, is_not_newline, is_sign, syntax_of}
 use Rattle.ls_reader.specs.Numbers.{is_digit_in}
 use Rattle.ls_reader.specs.CharNames.{character}
 use Rattle.ls_reader.specs.Comments.{comment}
@@ -138,7 +139,7 @@ as_gap (Err x) = Err x
 abbrev pub character_at : List ℕ → Result (Token × List ℕ) Fault
 character_at [] = Err (Unclosed, 0)
 character_at (c ∷ cs) =
-    let n = run_len is_constituent cs in Ok (token.Atom (character (c ∷ take n cs)), drop n cs)
+    let n = prefix_len is_constituent cs in Ok (token.Atom (character (c ∷ take n cs)), drop n cs)
 
 -- ---- macro characters
 
@@ -156,7 +157,7 @@ behind_count counted (c ∷ cs) = construct_at (construct_of counted c) cs
 
 -- behind a `#`
 abbrev pub sharpsign : List ℕ → Result (Token × List ℕ) Fault
-sharpsign cs = let n = run_len is_digit cs in behind_count (nat_lt 0 n) (drop n cs)
+sharpsign cs = let n = prefix_len is_digit cs in behind_count (nat_lt 0 n) (drop n cs)
 
 -- behind a comma (2.4.7)
 abbrev pub comma : List ℕ → Token × List ℕ
@@ -167,7 +168,7 @@ comma (c ∷ cs) = if is_splice c then (token.Mark mark.Splice, cs) else (token.
 abbrev pub other_macro : ℕ → List ℕ → Result (Token × List ℕ) Fault
 other_macro c cs =
     if c == 44 then Ok (comma cs) else
-    (if c == 59 then Ok (token.Gap, drop (run_len is_not_newline cs) cs) else as_string (content false cs))
+    (if c == 59 then Ok (token.Gap, drop (prefix_len is_not_newline cs) cs) else as_string (content false cs))
 
 -- a macro character that ends the token before it
 abbrev pub macro_at : Option Token → ℕ → List ℕ → Result (Token × List ℕ) Fault
@@ -178,7 +179,7 @@ macro_at None c cs = other_macro c cs
 
 -- the lexeme that begins with a character of a type
 abbrev pub lexeme_by : Syntax → ℕ → List ℕ → Result (Token × List ℕ) Fault
-lexeme_by syntax_type.Whitespace c cs = Ok (token.Gap, drop (run_len is_blank cs) cs)
+lexeme_by syntax_type.Whitespace c cs = Ok (token.Gap, drop (prefix_len is_blank cs) cs)
 lexeme_by syntax_type.Invalid c cs = Err (BadToken, 0)
 lexeme_by syntax_type.Terminating c cs = macro_at (sign_token c) c cs
 lexeme_by syntax_type.Sharp c cs = sharpsign cs

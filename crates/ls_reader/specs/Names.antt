@@ -1,6 +1,6 @@
 -- Symbols as tokens (2.3.4, 2.3.5).
 use Rattle.std.specs.Prelude.{ℕ, Bool, true, ◌||◌, ◌&&◌, not, if◌then◌else◌, ◌==◌, nat_eq, nat_lt, List, [], ◌∷◌, length, take, drop, codes}
-use Rattle.std.specs.List.{flat_map}
+use Rattle.std.specs.List.{flat_map, prefix_len}
 use Rattle.std.specs.Char.{to_ascii_uppercase}
 use Rattle.std.specs.Cmp.Lexicographic.{pointwise}
 use Rattle.ls_object.specs.Symbols.{common_lisp_symbol}
@@ -12,7 +12,6 @@ use Rattle.ls_reader.specs.declared.sign.Sign.{Sign}
 use Rattle.ls_reader.specs.declared.sign.Sign.TheVariants.{Plain, Exact, Escape}
 use Rattle.ls_reader.specs.declared.token.Token.{Token}
 use Rattle.ls_reader.specs.declared.token.Token.TheVariants as token
-use Rattle.ls_reader.specs.Characters.{run_len}
 
 -- what a sign adds to a name: letters a to z go to upper case outside escapes
 abbrev pub sign_name : Sign → List ℕ
@@ -36,7 +35,7 @@ is_no_marker Escape = true
 
 -- how many signs stand before the first package marker
 abbrev pub marker_at : List Sign → ℕ
-marker_at signs = run_len is_no_marker signs
+marker_at signs = prefix_len is_no_marker signs
 
 -- at least one sign, and no package marker
 abbrev pub is_name : List Sign → Bool

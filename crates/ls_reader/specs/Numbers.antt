@@ -1,4 +1,5 @@
 -- Numbers as they are written (2.3.1, 2.3.2).
+use Rattle.std.specs.List.{prefix_len}
 use Rattle.std.specs.Prelude.{ℕ, zero, suc, ◌+◌, ◌-◌, ◌*◌, Bool, true, false, ◌&&◌, ◌||◌, if◌then◌else◌, ◌==◌, nat_lt, nat_le, List, [], ◌∷◌, length, take, drop, Option, Some, None}
 use Rattle.std.proofs.Math.Nat.{zero-lt-suc}
 use Rattle.ls_reader.specs.declared.datum.Form.{roll-Form}
@@ -9,7 +10,7 @@ use Rattle.ls_reader.specs.declared.datum.Literal.{Literal}
 use Rattle.ls_reader.specs.declared.fault.FaultKind.TheVariants.{ZeroDenominator}
 use Rattle.ls_reader.specs.declared.token.Token.{Token}
 use Rattle.ls_reader.specs.declared.token.Token.TheVariants as token
-use Rattle.ls_reader.specs.Characters.{is_digit, is_sign, run_len}
+use Rattle.ls_reader.specs.Characters.{is_digit, is_sign}
 use Rattle.ls_reader.specs.Fractions.{literal_of}
 
 -- ---- digits
@@ -27,7 +28,7 @@ is_digit_in base c = nat_lt (weight c) base
 
 -- how many digits come first
 abbrev pub digits_len : ℕ → List ℕ → ℕ
-digits_len base cs = run_len (is_digit_in base) cs
+digits_len base cs = prefix_len (is_digit_in base) cs
 
 -- whether digits come first
 abbrev pub have_digits : ℕ → List ℕ → Bool

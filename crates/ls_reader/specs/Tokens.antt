@@ -1,6 +1,6 @@
 -- Tokens: how they are written (2.2), and what they are (2.3).
 use Rattle.std.specs.Prelude.{ℕ, Bool, true, false, ◌&&◌, if◌then◌else◌, ◌==◌, ◌≡◌, List, [], ◌∷◌, ◌++◌, length, map, Option, Some, None}
-use Rattle.std.specs.List.{flat_map, AllByRecursion}
+use Rattle.std.specs.List.{flat_map, AllByRecursion, prefix_len}
 use Rattle.ls_reader.specs.declared.datum.Form.{Form, roll-Form}
 use Rattle.ls_reader.specs.declared.datum.Form.TheOpen.{Form-F}
 use Rattle.ls_reader.specs.declared.datum.FloatFormat.{FloatFormat}
@@ -11,7 +11,7 @@ use Rattle.ls_reader.specs.declared.word.Role.{Role}
 use Rattle.ls_reader.specs.declared.word.Role.TheVariants.{Free, Radix, Bits, Uninterned}
 use Rattle.ls_reader.specs.declared.token.Token.{Token}
 use Rattle.ls_reader.specs.declared.token.Token.TheVariants as token
-use Rattle.ls_reader.specs.Characters.{is_constituent, run_len}
+use Rattle.ls_reader.specs.Characters.{is_constituent}
 use Rattle.ls_reader.specs.Strings.{Inner, inners_text, inner_char, IsInner}
 use Rattle.ls_reader.specs.Numbers.{is_digit_in, is_rational_in, is_rational, number_of, float_of}
 use Rattle.ls_reader.specs.Names.{symbol_token}
@@ -83,7 +83,7 @@ is_point_char c = c == 46
 
 -- points alone
 abbrev pub are_points : List ℕ → Bool
-are_points text = run_len is_point_char text == length text
+are_points text = prefix_len is_point_char text == length text
 
 -- a dot (2.3.3), or points, which are a fault
 abbrev pub points : ℕ → Token
@@ -104,7 +104,7 @@ plain_token text =
 
 -- whether all characters are the digits 0 and 1
 abbrev pub are_bits : List ℕ → Bool
-are_bits text = run_len (is_digit_in 2) text == length text
+are_bits text = prefix_len (is_digit_in 2) text == length text
 
 -- bits, which are not kept where their count is written too (2.4.8.4)
 abbrev pub bits : Bool → ℕ → Form

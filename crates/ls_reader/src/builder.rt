@@ -91,6 +91,7 @@ impl Builder {
     }
 
     /// A construct begins, unless it is too deep.
+    #[inline(always)]
     fn begin(&mut self, from: Place, frame: Frame) -> Result<(), Failure>
         ensures { Steps result self.new (spec.begin from frame self.old) }
     {
@@ -102,6 +103,7 @@ impl Builder {
     }
 
     /// A construct that is a datum begins.
+    #[inline(always)]
     fn begin_datum(&mut self, from: Place, frame: Frame) -> Result<(), Failure>
         ensures { Steps result self.new (spec.begin_datum from frame self.old) }
     {
@@ -112,6 +114,7 @@ impl Builder {
     }
 
     /// A datum of one token is whole.
+    #[inline(always)]
     fn put_atom(&mut self, alloc: Global, from: Place, datum: Datum) -> Result<(), Failure>
         ensures { Steps result self.new (spec.put_atom from datum self.old) }
     {

@@ -1,5 +1,6 @@
+ghost use Rattle.std.specs.List.{prefix_len};
 ghost use Rattle.std.specs.Prelude.{◌≡◌, ◌+◌, ◌≤◌, ◌<◌, ◌^◌, length, [], None};
-ghost use Rattle.ls_reader.specs.Characters.{is_not_newline, run_len};
+ghost use Rattle.ls_reader.specs.Characters.{is_not_newline};
 ghost use Rattle.ls_reader.specs.Comments.{comment, is_pair, passed};
 ghost use Rattle.ls_reader.specs.Lexing.{Gives};
 
@@ -9,17 +10,10 @@ use std::alloc::Global;
 
 /// How many characters are left of a line (2.4.4).
 pub(crate) fn line_len(text: &[char]) -> usize
-    ensures value { result ≡ run_len is_not_newline text.now }
+    ensures value { result ≡ prefix_len is_not_newline text.now }
     ensures within { result ≤ length text.now }
 {
-    let mut n = 0;
-    for c in text {
-        if *c == '\n' {
-            return n;
-        }
-        n += 1;
-    }
-    n
+    text.iter().take_while(|c| **c != '\n').count()
 }
 
 /// Whether a character is the second of a pair.

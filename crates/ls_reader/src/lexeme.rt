@@ -1,3 +1,4 @@
+ghost use Rattle.std.specs.List.{prefix_len};
 ghost use Rattle.std.specs.Prelude.{◌≡◌, ◌≤◌, ◌∷◌, length};
 ghost use Rattle.ls_reader.specs.Characters as characters;
 ghost use Rattle.ls_reader.specs.Lexing as spec;
@@ -16,17 +17,10 @@ use std::alloc::Global;
 
 /// How many characters of whitespace come first.
 fn blanks_len(text: &[char]) -> usize
-    ensures value { result ≡ characters.run_len characters.is_blank text.now }
+    ensures value { result ≡ prefix_len characters.is_blank text.now }
     ensures within { result ≤ length text.now }
 {
-    let mut n = 0;
-    for c in text {
-        if !is_blank(*c) {
-            return n;
-        }
-        n += 1;
-    }
-    n
+    text.iter().take_while(|c| is_blank(**c)).count()
 }
 
 /// What stands behind a comma in a mark of two characters.

@@ -1,6 +1,6 @@
+ghost use Rattle.std.specs.List.{prefix_len};
 ghost use Rattle.std.specs.Prelude.{◌≡◌, ◌≤◌, length, map, IfOk, codes};
 ghost use Rattle.std.specs.Char.{to_ascii_uppercase};
-ghost use Rattle.ls_reader.specs.Characters.{run_len};
 ghost use Rattle.ls_reader.specs.Names as spec;
 ghost use Rattle.ls_reader.specs.declared.sign.Sign.TheVariants.{Plain};
 
@@ -12,6 +12,7 @@ use ls_object::{Symbol, Text};
 use std::alloc::{AllocError, Global};
 
 /// The text in upper case.
+#[inline(always)]
 pub(crate) fn upper_case(alloc: Global, text: &[char]) -> Result<Text, AllocError>
     ensures { IfOk result (λ t. t ≡ map to_ascii_uppercase text.now) }
 {
@@ -52,14 +53,7 @@ fn marker_at(signs: &[Sign]) -> usize
     ensures value { result ≡ spec.marker_at signs.now }
     ensures within { result ≤ length signs.now }
 {
-    let mut n = 0;
-    for sign in signs {
-        if !is_no_marker(*sign) {
-            return n;
-        }
-        n += 1;
-    }
-    n
+    signs.iter().take_while(|sign| is_no_marker(**sign)).count()
 }
 
 /// Whether signs can be a symbol's name behind a package marker.
@@ -131,6 +125,7 @@ fn marked(alloc: Global, before: &[Sign], after: &[Sign]) -> Result<Token, Alloc
 }
 
 /// A symbol of COMMON-LISP.
+#[inline(always)]
 fn common_lisp(alloc: Global, name: Text) -> Result<Token, AllocError>
     ensures { IfOk result (λ t. t ≡ spec.common_lisp name) }
 {
@@ -150,17 +145,10 @@ pub(crate) fn symbol_token(alloc: Global, signs: &[Sign]) -> Result<Token, Alloc
 
 /// How many characters stand before the first colon.
 fn colon_at(text: &[char]) -> usize
-    ensures value { result ≡ run_len spec.is_no_colon text.now }
+    ensures value { result ≡ prefix_len spec.is_no_colon text.now }
     ensures within { result ≤ length text.now }
 {
-    let mut n = 0;
-    for c in text {
-        if *c == ':' {
-            return n;
-        }
-        n += 1;
-    }
-    n
+    text.iter().take_while(|c| **c != ':').count()
 }
 
 /// The signs of a text without escapes.
@@ -172,6 +160,7 @@ fn plain_signs(alloc: Global, text: &[char]) -> Result<Vec<Sign>, AllocError>
 
 /// The symbol that a token without escapes is.
 #[tactic(auto, using(crate::proofs::NameLemmas::plain_symbol_is))]
+#[inline(always)]
 pub(crate) fn plain_symbol(alloc: Global, text: &[char]) -> Result<Token, AllocError>
     ensures { IfOk result (λ t. t ≡ spec.symbol_token (map Plain text.now)) }
 {

@@ -47,14 +47,7 @@ fn digits_len(base: u32, text: &[char]) -> usize
     ensures value { result ≡ spec.digits_len base text.now }
     ensures within { result ≤ length text.now }
 {
-    let mut n = 0;
-    for c in text {
-        if !is_digit_in(base, *c) {
-            return n;
-        }
-        n += 1;
-    }
-    n
+    text.iter().take_while(|c| is_digit_in(base, **c)).count()
 }
 
 fn have_digits(base: u32, text: &[char]) -> bool

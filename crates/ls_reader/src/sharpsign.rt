@@ -1,3 +1,4 @@
+ghost use Rattle.std.specs.List.{prefix_len};
 ghost use Rattle.std.specs.Prelude.{◌≡◌, ◌∷◌, ◌≤◌, length};
 ghost use Rattle.ls_reader.specs.Characters as characters;
 ghost use Rattle.ls_reader.specs.Lexing as spec;
@@ -32,17 +33,10 @@ fn is_digit(c: char) -> bool
 
 /// How many decimal digits come first.
 fn count_len(text: &[char]) -> usize
-    ensures value { result ≡ characters.run_len characters.is_digit text.now }
+    ensures value { result ≡ prefix_len characters.is_digit text.now }
     ensures within { result ≤ length text.now }
 {
-    let mut n = 0;
-    for c in text {
-        if !is_digit(*c) {
-            return n;
-        }
-        n += 1;
-    }
-    n
+    text.iter().take_while(|c| is_digit(**c)).count()
 }
 
 /// What is read with a datum and not kept.

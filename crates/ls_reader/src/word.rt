@@ -1,5 +1,6 @@
+ghost use Rattle.std.specs.List.{prefix_len};
 ghost use Rattle.std.specs.Prelude.{◌≡◌, ◌∷◌, ◌≤◌, length, map, IfOk, false};
-ghost use Rattle.ls_reader.specs.Characters.{is_constituent, run_len};
+ghost use Rattle.ls_reader.specs.Characters.{is_constituent};
 ghost use Rattle.ls_reader.specs.Lexing as spec;
 ghost use Rattle.ls_reader.specs.Lexing.{Gives};
 ghost use Rattle.ls_reader.specs.Tokens as tokens;
@@ -120,17 +121,10 @@ fn signs_at(alloc: Global, text: &[char]) -> Result<(Vec<Sign>, &[char]), Stop>
 
 /// How many constituents come first.
 pub(crate) fn constituents_len(text: &[char]) -> usize
-    ensures value { result ≡ run_len is_constituent text.now }
+    ensures value { result ≡ prefix_len is_constituent text.now }
     ensures within { result ≤ length text.now }
 {
-    let mut n = 0;
-    for c in text {
-        if !is_constituent(*c) {
-            return n;
-        }
-        n += 1;
-    }
-    n
+    text.iter().take_while(|c| is_constituent(**c)).count()
 }
 
 fn are_points(text: &[char]) -> bool
@@ -141,21 +135,15 @@ fn are_points(text: &[char]) -> bool
 
 /// How many points come first.
 fn points_len(text: &[char]) -> usize
-    ensures value { result ≡ run_len tokens.is_point_char text.now }
+    ensures value { result ≡ prefix_len tokens.is_point_char text.now }
     ensures within { result ≤ length text.now }
 {
-    let mut n = 0;
-    for c in text {
-        if *c != '.' {
-            return n;
-        }
-        n += 1;
-    }
-    n
+    text.iter().take_while(|c| **c == '.').count()
 }
 
 /// What a token without escapes is (2.3). Most are symbols, which the first character tells.
 #[tactic(auto, using(crate::proofs::WordLemmas::plain_token_symbol))]
+#[inline(always)]
 fn plain_token(alloc: Global, text: &[char]) -> Result<Token, AllocError>
     ensures { IfOk result (λ t. t ≡ tokens.plain_token text.now) }
 {
@@ -206,6 +194,7 @@ fn uninterned(token: Token) -> Token
 }
 
 /// What a token without escapes is, by what it is read as.
+#[inline(always)]
 fn plain_word(alloc: Global, role: Role, text: &[char]) -> Result<Token, AllocError>
     ensures { IfOk result (λ t. t ≡ tokens.plain_word role text.now) }
 {
@@ -240,6 +229,7 @@ fn begins_escape(text: &[char]) -> bool
 }
 
 /// The token that comes first, and what follows. Nearly all tokens have no escapes.
+#[inline(always)]
 pub(crate) fn word_at(alloc: Global, role: Role, text: &[char]) -> Result<(Token, &[char]), Stop>
     ensures { Gives (λ x. (x.0, x.1.now)) result (spec.word_at role text.now) }
 {

@@ -1,4 +1,5 @@
 -- The distinct atoms are those that are found one by one.
+use Rattle.std.proofs.lemmas.Bool.{cases_Bool}
 use Rattle.std.proofs.Common.{ℕ, ◌≡◌, ap, refl, sym, subst, ◌∙◌, ◌⊎◌, inl, inr, Bool, true, false, ◌||◌, if◌then◌else◌, true≢false, nat_eq, List, [], ◌∷◌, ◌++◌, fold, Decides, append-nil, append_assoc, Vec}
 use Rattle.std.specs.List.{list_any, Contains}
 use Rattle.std.specs.Cmp.Lexicographic.{pointwise}
@@ -9,10 +10,6 @@ use Rattle.ls_spec.specs.Keys.{key}
 use Rattle.ls_spec.specs.Finding.{same_key, with_new, AreKeysOf}
 use Rattle.ls_spec.proofs.KeyLemmas.{key_told}
 use Rattle.ls_spec.proofs.TruthLemmas.{Decides-text}
-
-either_way : (b : Bool) → (b ≡ true) ⊎ (b ≡ false)
-either_way true = inl refl
-either_way false = inr refl
 
 -- specifiers with one key are equal
 Decides-same_key : (s t : Specifier) → Decides (same_key s t) (s ≡ t)
@@ -30,7 +27,7 @@ Decides-found s found = (
 
 any_append : (x : Specifier) (xs ys : List Specifier) → list_any (same_key x) (xs ++ ys) ≡ (list_any (same_key x) xs || list_any (same_key x) ys)
 any_append x [] ys = refl
-any_append x (y ∷ xs) ys = let e = any_append x xs ys in elim (either_way (same_key x y)) [ inl t ↦ cc | inr t ↦ cc ]
+any_append x (y ∷ xs) ys = let e = any_append x xs ys in elim (cases_Bool (same_key x y)) [ inl t ↦ cc | inr t ↦ cc ]
 
 or_swap : (a b : Bool) → (a || (b || false)) ≡ (b || a)
 or_swap true true = refl
@@ -42,7 +39,7 @@ or_swap false false = refl
 distinct_found : (list found seen : List Specifier) → ((x : Specifier) → list_any (same_key x) seen ≡ list_any (same_key x) found)
     → (d : List Specifier) × ((fold with_new found list ≡ found ++ d) × AreDistinctPast seen list d)
 distinct_found [] found seen h = ([], (sym (append-nil found), at_end))
-distinct_found (s ∷ ss) found seen h = elim (either_way (list_any (same_key s) found)) [
+distinct_found (s ∷ ss) found seen h = elim (cases_Bool (list_any (same_key s) found)) [
   | inl there ↦ (let rest = distinct_found ss found seen h in
       (rest.0, (subst (λ b. fold with_new (if b then found else found ++ s ∷ []) ss ≡ found ++ rest.0) (sym there) rest.1.0, again ((Decides-found s seen).0 (h s ∙ there)) rest.1.1)))
   | inr new ↦ (let rest = distinct_found ss (found ++ s ∷ []) (s ∷ seen) (λ x. ap (λ b. same_key x s || b) (h x) ∙ sym (any_append x found (s ∷ []) ∙ or_swap (list_any (same_key x) found) (same_key x s))) in (

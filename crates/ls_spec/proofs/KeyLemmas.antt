@@ -2,7 +2,7 @@
 use Rattle.std.proofs.Common.{ℕ, ℤ, pos, ◌≡◌, ap, refl, sym, ◌∙◌, Bool, true, false, int_lt, unsigned_abs, List, [], ◌∷◌, ◌++◌, length, Option, Some, None, append_assoc, arith, encode_utf8_all}
 use Rattle.std.proofs.lemmas.Int.{ints}
 use Rattle.std.proofs.lemmas.Str.{encodes_same}
-use Rattle.ls_object.specs.contracts.rat.Rat as contract
+use Rattle.ls_object.proofs.RatLemmas.{same_rat}
 use Rattle.ls_object.specs.declared.rat.Rat.{Rat}
 use Rattle.ls_object.specs.declared.symbol.Symbol.{Symbol}
 use Rattle.ls_spec.specs.declared.spec.Point.{Point}
@@ -30,9 +30,6 @@ heads a b xs ys e = cc
 
 tails : (a b : ℕ) (xs ys : List ℕ) → a ∷ xs ≡ b ∷ ys → xs ≡ ys
 tails a b xs ys e = cc
-
-pub same_rat : (r s : Rat) → r.num ≡ s.num → r.den ≡ s.den → r ≡ s
-same_rat r s e f = contract.the_row.coded.inj r s (cc)
 
 same_int : (x y : ℤ) → bool_number (int_lt x (pos 0)) ≡ bool_number (int_lt y (pos 0)) → unsigned_abs x ≡ unsigned_abs y → x ≡ y
 same_int x y e f = grind (arith, ints)

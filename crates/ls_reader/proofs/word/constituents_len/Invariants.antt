@@ -1,7 +1,0 @@
-use Rattle.std.proofs.Common.{◌≡◌, ◌+◌, drop}
-use Rattle.ls_reader.specs.Characters.{run_len}
-use Rattle.ls_reader.specs.Characters.{is_constituent}
-use Rattle.ls_reader.proofs.word.constituents_len.Given as goal
-
-abbrev pub invariant-loop-c : goal.invariant-loop-c
-invariant-loop-c l = (l.n ≡ l.c-index) × (l.n + run_len is_constituent (drop l.c-index l.text) ≡ run_len is_constituent l.text)
