@@ -2,7 +2,9 @@ pub mod Symbols
 pub mod Universe
 pub mod Inclusion
 pub mod Table
+pub mod Entries
 pub mod Meaning
+pub mod Limits
 pub mod Ratio
 pub mod Integers
 pub mod ObjectText

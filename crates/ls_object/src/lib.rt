@@ -18,7 +18,10 @@ mod write;
 
 pub use dims::Dims;
 pub use kind::Kind;
-pub use laws::one_text_one_object;
+pub use laws::{
+    entries_of_the_table, limits_of_rationals, named_codes, one_text_one_object,
+    places_of_the_table,
+};
 pub use object::{Object, Shape};
 pub use parents::Parents;
 pub use rat::{DENOMINATOR_LIMIT, NUMERATOR_LIMIT, Rat};

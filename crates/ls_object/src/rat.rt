@@ -1,7 +1,7 @@
 ghost use Rattle.std.specs.Prelude.{ℕ, ℤ, pos, unsigned_abs, ◌≡◌, ◌*◌, ◌<◌, ◌≤◌, ◌^◌, ◌*ℤ◌, ◌↔◌, ◌⊎◌, IsTrue, IsNone, IfSome};
 ghost use Rattle.std.specs.Int.{IsGcd};
 ghost use Rattle.ls_object.specs.Ratio.{ratio_cmp, IsReduced, IsReducedSize, PassesLimits};
-ghost use Rattle.ls_object.specs.declared.rat.TheConstants.{NUMERATOR_LIMIT, DENOMINATOR_LIMIT};
+ghost use Rattle.ls_object.specs.Limits.{numerator_limit, greatest_denominator};
 
 use std::cmp::Ordering;
 
@@ -18,8 +18,8 @@ pub struct Rat {
     pub den: u128,
     pub ghost positive: { 0 < den },
     pub ghost lowest: { IsGcd (unsigned_abs num) den 1 },
-    pub ghost num_fits: { unsigned_abs num < NUMERATOR_LIMIT },
-    pub ghost den_fits: { den ≤ DENOMINATOR_LIMIT },
+    pub ghost num_fits: { unsigned_abs num < numerator_limit },
+    pub ghost den_fits: { den ≤ greatest_denominator },
 }
 
 impl Rat {
@@ -40,7 +40,7 @@ impl Rat {
 
     /// The integer of this value.
     pub fn integer(value: i128) -> Rat
-        requires { unsigned_abs value < NUMERATOR_LIMIT }
+        requires { unsigned_abs value < numerator_limit }
         ensures num { result.num ≡ value }
         ensures den { result.den ≡ 1 }
     {
@@ -71,8 +71,8 @@ struct Reduced {
     den: u128,
     ghost positive: { 0 < den },
     ghost lowest: { IsGcd size den 1 },
-    ghost size_fits: { size < NUMERATOR_LIMIT },
-    ghost den_fits: { den ≤ DENOMINATOR_LIMIT },
+    ghost size_fits: { size < numerator_limit },
+    ghost den_fits: { den ≤ greatest_denominator },
 }
 
 /// The fraction `size / den` in lowest terms, or `None` where that passes the limits.
@@ -95,7 +95,7 @@ fn lowest_terms(size: u128, den: u128) -> Option<Reduced>
 
 /// The number of this absolute value that has the sign of `num`.
 fn with_sign_of(num: i128, size: u128) -> i128
-    requires { size < NUMERATOR_LIMIT }
+    requires { size < numerator_limit }
     ensures size { unsigned_abs result ≡ size }
     ensures sign { (g : ℕ) → unsigned_abs num ≡ g * size → num ≡ (pos g *ℤ result) }
 {
