@@ -54,7 +54,7 @@ small_of : (r : Rat) → is_small r ≡ true → IsSmall r
 small_of r e = let both = and_both (nat_le (unsigned_abs r.num) LARGEST_NUMERATOR) (nat_le r.den LARGEST_DENOMINATOR) e in (grind (arith, both.0), grind (arith, both.1))
 
 small_written : (n : Literal) → IfSome (written n) IsSmall
-small_written (literal.Value r) = cond_both (is_small r) (Some r) None (λ o. IfSome o IsSmall) (small_of r) (λ e. tt)
+small_written (literal.Value s) = cond_both (is_small s.value) (Some s.value) None (λ o. IfSome o IsSmall) (small_of s.value) (λ e. tt)
 small_written literal.Wide = tt
 
 -- ---- bounds

@@ -38,7 +38,7 @@ is_small r = nat_le (unsigned_abs r.num) LARGEST_NUMERATOR && nat_le r.den LARGE
 
 -- the number that is written, or none where it is wide
 abbrev pub written : Literal → Option Rat
-written (literal.Value r) = if is_small r then Some r else None
+written (literal.Value small) = if is_small small.value then Some small.value else None
 written literal.Wide = None
 
 abbrev pub whole_if : (z : ℤ) (fits : Bool) → nat_lt (unsigned_abs z) NUMERATOR_LIMIT ≡ fits → Rat

@@ -29,8 +29,8 @@ pub(crate) fn written(literal: &Literal) -> Option<Rat>
     ensures small { IfSome result (λ r. IsTrue (spec.is_small r)) }
 {
     match literal {
-        Literal::Value(number) => if is_small(number) {
-            Some(*number)
+        Literal::Value(small) => if is_small(&small.value) {
+            Some(small.value)
         } else {
             None
         },

@@ -1,7 +1,7 @@
 use super::*;
 use ls_env::Env;
 use ls_object::{Items, Rat, Symbol, Text};
-use ls_reader::{Datum, FloatFormat, Form, Literal, Span, read_text};
+use ls_reader::{Datum, FloatFormat, Form, Literal, SmallRat, Span, read_text};
 use ls_spec::{Bound, Point, RangeKind, Spec};
 use std::alloc::AllocError;
 use std::test::*;
@@ -277,8 +277,12 @@ fn made(rt: &HostRuntime, head: &str, argument: Form) -> Result<String, AllocErr
 
 /// A number n/d, or a wide one where that is past the limits.
 fn ratio(num: i128, den: u128) -> Form {
-    match Rat::new(num, den) {
-        Some(number) => Form::Number(Literal::Value(number)),
+    let small = match Rat::new(num, den) {
+        Some(number) => SmallRat::new(number),
+        None => None,
+    };
+    match small {
+        Some(small) => Form::Number(Literal::Value(small)),
         None => Form::Number(Literal::Wide),
     }
 }

@@ -1,22 +1,25 @@
 -- What a text says is one thing, and what was answered is that.
-use Rattle.std.proofs.Common.{◌≡◌, ℕ, ◌≤◌, inl, inr, List, [], ◌∷◌, length, Option, Some, None, Result, Ok, Err, refl, sym, ap, subst, ◌∙◌, arith}
+use Rattle.std.proofs.Common.{◌≡◌, ℕ, ◌≤◌, ◌⊎◌, inl, inr, Bool, true, false, List, [], ◌∷◌, length, take, Option, Some, None, Result, Ok, Err, refl, sym, ap, subst, ◌∙◌, arith}
 use Rattle.std.specs.Prelude.{IfOk, IfErr, IfSome}
-use Rattle.std.specs.Str.{chars, IsUtf8}
+use Rattle.std.specs.Str.{chars, IsUtf8, is_utf8}
+use Rattle.std.specs.Str.Lossy.{utf8_valid_len}
+use Rattle.std.proofs.lemmas.Bool.{false≢true}
 use lib.Utf8.{encodes}
-use Rattle.std.proofs.lemmas.Str.{encodes-chars, length-le-encodes}
+use Rattle.std.proofs.lemmas.Str.{encodes-chars, length-le-encodes, IsUtf8-from_is_utf8, is_utf8-from_IsUtf8}
 use Rattle.ls_reader.specs.declared.place.Place.{Place}
 use Rattle.ls_reader.specs.declared.datum.Datum.{Datum}
 use Rattle.ls_reader.specs.declared.datum.Span.{Span}
 use Rattle.ls_reader.specs.declared.fault.FaultKind.{FaultKind}
+use Rattle.ls_reader.specs.declared.fault.FaultKind.TheVariants.{NotUtf8}
 use Rattle.ls_reader.specs.declared.fault.Failure.{Failure}
 use Rattle.ls_reader.specs.declared.fault.Failure.TheVariants as failure
 use Rattle.ls_reader.specs.declared.fault.ReadError.{ReadError}
 use Rattle.ls_reader.specs.declared.fault.ReadError.TheVariants as errors
-use Rattle.ls_reader.specs.Places.{span_at}
+use Rattle.ls_reader.specs.Places.{start, after_all, span_at}
 use Rattle.ls_reader.specs.Forms.{Forms, FormsIn}
 use Rattle.ls_reader.specs.Faults.{Fault}
-use Rattle.ls_reader.specs.Answers.{fault_of, fault_of_failure, FailsIn, FailsAt, FaultAt, IsFaultOf, ReadsAs, RefusesAs}
-use Rattle.ls_reader.proofs.UniqueLaw.{outcome, forms_outcome, fault_outcome}
+use Rattle.ls_reader.specs.Answers.{fault_of, fault_of_failure, FailsIn, FailsAt, FaultAt, IsFaultOf, HasForms, HasFault, ReadsAs, RefusesAs}
+use Rattle.ls_reader.proofs.OneAnswerLaw.{outcome, forms_outcome, fault_outcome, Settles, outcome_settles}
 
 -- ---- characters
 
@@ -56,6 +59,28 @@ fault_same bytes k l p q (inr a) (inr b) = same_err (outcome (chars bytes)) k l 
 pub forms_apart : (bytes : List ℕ) (fs : List Datum) (k : FaultKind) (p : Place) → Forms bytes fs → Fault bytes k p → ⊥
 forms_apart bytes fs k p a (inl b) = b.not_utf8 a.0
 forms_apart bytes fs k p a (inr b) = not_both (outcome (chars bytes)) fs (k, p) (forms_outcome (chars bytes) fs a.1) (fault_outcome (chars bytes) k p b.1)
+
+-- characters with an outcome have forms or a fault
+characters_settled : (bytes : List ℕ) → IsUtf8 bytes → (r : Result (List Datum) (FaultKind × Place)) → Settles (chars bytes) r → HasForms bytes ⊎ HasFault bytes
+characters_settled bytes utf8 (Ok fs) h = inl (fs, (utf8, h))
+characters_settled bytes utf8 (Err x) h = inr (x.0, x.1, inr (utf8, h))
+
+-- bytes that are not UTF-8 have that fault
+not_text : (bytes : List ℕ) → is_utf8 bytes ≡ false → HasFault bytes
+not_text bytes e = (
+  NotUtf8,
+  after_all start (chars (take (utf8_valid_len bytes) bytes)),
+  inl (record { not_utf8 = λ utf8. absurd (false≢true (sym e ∙ is_utf8-from_IsUtf8 bytes utf8)); kind = refl; stands = refl }),
+)
+
+-- by whether the bytes are UTF-8
+settled_when : (bytes : List ℕ) (utf8 : Bool) → is_utf8 bytes ≡ utf8 → HasForms bytes ⊎ HasFault bytes
+settled_when bytes true e = characters_settled bytes (IsUtf8-from_is_utf8 bytes e) (outcome (chars bytes)) (outcome_settles (chars bytes))
+settled_when bytes false e = inr (not_text bytes e)
+
+-- each text has forms or a fault
+pub settled : (bytes : List ℕ) → HasForms bytes ⊎ HasFault bytes
+settled bytes = settled_when bytes (is_utf8 bytes) refl
 
 -- ---- what was answered
 

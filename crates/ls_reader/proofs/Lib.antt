@@ -12,5 +12,5 @@ pub mod BuilderLemmas
 pub mod TurnLemmas
 pub mod RunLemmas
 pub mod RefusalLemmas
-pub mod UniqueLaw
+pub mod OneAnswerLaw
 pub mod AnswerLemmas

@@ -13,11 +13,13 @@ use Rattle.std.proofs.Math.Path.{path_j}
 use Rattle.std.proofs.Math.IntN.{+ℤ_idl, pos-*ℤ-pos, pos-*ℤ-negsuc}
 use Rattle.ls_object.proofs.RatLemmas.{same_rat}
 use Rattle.ls_object.specs.declared.rat.Rat.{Rat}
+use Rattle.ls_reader.specs.contracts.small.SmallRat as contract
+use Rattle.ls_reader.specs.declared.small.SmallRat.{SmallRat}
 use Rattle.ls_object.specs.Ratio.{IsReduced}
 use Rattle.ls_reader.specs.declared.datum.Literal.{Literal}
 use Rattle.ls_reader.specs.declared.datum.Literal.TheVariants as literal
 use Rattle.ls_reader.specs.CharNames.{is_scalar, scalar}
-use Rattle.ls_reader.specs.Fractions.{signed, abs-signed, divisor, rational, is_narrow, literal_when, literal_of}
+use Rattle.ls_reader.specs.Fractions.{signed, abs-signed, divisor, rational, small_rational, is_narrow, literal_when, literal_of}
 use Rattle.ls_reader.specs.Numbers.{weight, value_on, number, fraction}
 
 -- ---- the reduced fraction
@@ -62,13 +64,24 @@ rational_is negative n d p short small r h =
     (numerator_is negative n g r.num some h.1.1 ∙ ap (λ (k : ℕ). signed negative (n / k)) same)
     (sym (quotient d g r.den some h.1.2) ∙ ap (λ (k : ℕ). d / k) same)
 
+-- a reduced fraction is within the limits where the fraction is
+pub reduced_small : (negative : Bool) (n d : ℕ) → 0 < d → (r : Rat) → IsReduced (signed negative n) d r.num r.den → n ≤ 2 ^ 64 → d ≤ 2 ^ 60 → (unsigned_abs r.num ≤ 2 ^ 64) × (r.den ≤ 2 ^ 60)
+reduced_small negative n d p r h short small =
+    let s = small_rational negative n d p short small in
+    subst (λ (x : Rat). (unsigned_abs x.num ≤ 2 ^ 64) × (x.den ≤ 2 ^ 60)) (sym (rational_is negative n d p short small r h)) (s.num_is_small, s.den_is_small)
+
+-- two numbers within the limits are equal where the rationals are
+same_small : (a b : SmallRat) → a.value ≡ b.value → a ≡ b
+same_small a b e = contract.the_row.coded.inj a b (cc)
+
 -- by whether the fraction is within the limits
-narrow_when : (negative : Bool) (n d : ℕ) (p : 0 < d) (r : Rat) → IsReduced (signed negative n) d r.num r.den → n ≤ 2 ^ 64 → d ≤ 2 ^ 60 → (narrow : Bool) (e : is_narrow n d ≡ narrow) → literal.Value r ≡ literal_when negative n d p narrow e
-narrow_when negative n d p r h short small true e = ap (λ (x : Rat). literal.Value x) (rational_is negative n d p _ _ r h)
+narrow_when : (negative : Bool) (n d : ℕ) (p : 0 < d) (r : SmallRat) → IsReduced (signed negative n) d r.value.num r.value.den → n ≤ 2 ^ 64 → d ≤ 2 ^ 60 → (narrow : Bool) (e : is_narrow n d ≡ narrow) → literal.Value r ≡ literal_when negative n d p narrow e
+narrow_when negative n d p r h short small true e =
+    ap (λ (x : SmallRat). literal.Value x) (same_small r (small_rational negative n d p _ _) (rational_is negative n d p _ _ r.value h))
 narrow_when negative n d p r h short small false e = absurd (false≢true (sym e ∙ and_from _ _ (le-leb n (2 ^ 64) short) (le-leb d (2 ^ 60) small)))
 
 -- the literal of a fraction within the limits is the reduced fraction
-pub literal_narrow : (negative : Bool) (n d : ℕ) (p : 0 < d) (r : Rat) → IsReduced (signed negative n) d r.num r.den → n ≤ 2 ^ 64 → d ≤ 2 ^ 60 → literal.Value r ≡ literal_of negative n d p
+pub literal_narrow : (negative : Bool) (n d : ℕ) (p : 0 < d) (r : SmallRat) → IsReduced (signed negative n) d r.value.num r.value.den → n ≤ 2 ^ 64 → d ≤ 2 ^ 60 → literal.Value r ≡ literal_of negative n d p
 literal_narrow negative n d p r h short small = narrow_when negative n d p r h short small (is_narrow n d) refl
 
 -- minus n in 128 bits
@@ -77,8 +90,15 @@ negated n h =
     rw (to_z_pos w128 n (omega (arith, h)), +ℤ_idl (neg_ℤ (pos n))) (to_z-of_z w128 (neg_ℤ (pos n)) (fits_signed_from_abs w128 (neg_ℤ (pos n)) (rw (abs-signed true n) (omega (arith, h)))))
 
 -- a numerator in 128 bits
-pub kept : (negative : Bool) (n : ℕ) → n ≤ 2 ^ 64 → to_z w128 (of_z w128 (signed negative n)) ≡ signed negative n
+kept : (negative : Bool) (n : ℕ) → n ≤ 2 ^ 64 → to_z w128 (of_z w128 (signed negative n)) ≡ signed negative n
 kept negative n h = to_z-of_z w128 (signed negative n) (fits_signed_from_abs w128 (signed negative n) (rw (abs-signed negative n) (omega (arith, h))))
+
+-- what is reduced from the 128 bits of a numerator, and a denominator one above a number
+pub reduced_here : (negative : Bool) (n below : ℕ) (z : ℤ) (r : Rat) → z ≡ signed negative n → n ≤ 2 ^ 64 → IsReduced (to_z w128 (of_z w128 z)) (below + 1) r.num r.den → IsReduced (signed negative n) (suc below) r.num r.den
+reduced_here negative n below z r e short h =
+    let den : below + 1 ≡ suc below = omega arith in
+    subst (λ (d : ℕ). IsReduced (signed negative n) d r.num r.den) den
+    (subst (λ (y : ℤ). IsReduced y (below + 1) r.num r.den) (ap (λ (y : ℤ). to_z w128 (of_z w128 y)) e ∙ kept negative n short) h)
 
 -- ---- digits under a cap
 

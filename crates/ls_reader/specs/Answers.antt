@@ -58,6 +58,14 @@ abbrev pub RefusesAs : FaultKind → Place → Result (List Datum) ReadError →
 RefusesAs k place (Ok fs) = ⊥
 RefusesAs k place (Err e) = IfSome (fault_of e) (λ fault. fault ≡ (k, span_at place))
 
+-- the bytes are forms
+abbrev pub HasForms : List ℕ → Type 0
+HasForms bytes = (fs : List Datum) × Forms bytes fs
+
+-- the bytes have a fault
+abbrev pub HasFault : List ℕ → Type 0
+HasFault bytes = (k : FaultKind) × (place : Place) × Fault bytes k place
+
 -- the bytes are no forms
 abbrev pub HasNoForms : List ℕ → Type 0
 HasNoForms bytes = (fs : List Datum) → Forms bytes fs → ⊥

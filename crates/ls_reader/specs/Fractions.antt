@@ -9,6 +9,7 @@ use Rattle.std.proofs.lemmas.Nat.Gcd.{IsGcd-from_zero, IsGcd-from_mod}
 use Rattle.std.proofs.Math.Nat.{le_refl, le_trans, lt_of_le_of_lt, lt_of_lt_of_le, le-pred_of_lt, zero-lt-suc, not-suc-le-zero, pos_of_dvd_of_pos, div-le_self}
 use Rattle.ls_object.proofs.GcdLemmas.{IsGcd-reduced, mul-quotient, quotient_positive}
 use Rattle.ls_object.specs.declared.rat.Rat.{Rat}
+use Rattle.ls_reader.specs.declared.small.SmallRat.{SmallRat}
 use Rattle.ls_reader.specs.declared.datum.Literal.{Literal}
 use Rattle.ls_reader.specs.declared.datum.Literal.TheVariants as literal
 
@@ -59,6 +60,16 @@ rational negative n d positive short small =
       den_fits = le_trans (div-le_self d g) (le_trans small (lit≤ tt));
     }
 
+-- The same as a number within the limits: what divides a number is no greater.
+abbrev pub small_rational : (negative : Bool) (n d : ℕ) → 0 < d → n ≤ 2 ^ 64 → d ≤ 2 ^ 60 → SmallRat
+small_rational negative n d positive short small =
+    let g = (divisor n d).0 in
+    record {
+      value = rational negative n d positive short small;
+      num_is_small = subst (λ k. k ≤ 2 ^ 64) (sym (abs-signed negative (n / g))) (le_trans (div-le_self n g) short);
+      den_is_small = le_trans (div-le_self d g) small;
+    }
+
 -- whether a numerator and a denominator, as written, are within the limits of a literal
 abbrev pub is_narrow : ℕ → ℕ → Bool
 is_narrow n d = nat_le n (2 ^ 64) && nat_le d (2 ^ 60)
@@ -67,7 +78,7 @@ is_narrow n d = nat_le n (2 ^ 64) && nat_le d (2 ^ 60)
 abbrev pub literal_when : (negative : Bool) (n d : ℕ) → 0 < d → (narrow : Bool) → is_narrow n d ≡ narrow → Literal
 literal_when negative n d positive true e =
     let both = and_parts (nat_le n (2 ^ 64)) (nat_le d (2 ^ 60)) e in
-    literal.Value (rational negative n d positive (leb-true n (2 ^ 64) both.0) (leb-true d (2 ^ 60) both.1))
+    literal.Value (small_rational negative n d positive (leb-true n (2 ^ 64) both.0) (leb-true d (2 ^ 60) both.1))
 literal_when negative n d positive false e = literal.Wide
 
 -- the literal of n/d or minus n/d: the rational, if n is at most 2^64 and d at most 2^60

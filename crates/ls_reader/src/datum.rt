@@ -1,4 +1,5 @@
-use ls_object::{Boxed, Items, Rat, Symbol, Text};
+use crate::small::SmallRat;
+use ls_object::{Boxed, Items, Symbol, Text};
 
 /// Where a datum stands in its text: the byte offsets of its first byte and of the byte past its last one,
 /// and the line and column of its start, counted from 1. A column counts characters.
@@ -58,7 +59,7 @@ pub enum Form {
 #[derive(Clone, Copy, Debug, PartialEq, Eq)]
 pub enum Literal {
     /// The number, where it is within the limits.
-    Value(Rat),
+    Value(SmallRat),
     /// A number with a numerator of more than 2^64 in absolute value, or a denominator of more than 2^60.
     Wide,
 }

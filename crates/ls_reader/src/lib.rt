@@ -18,6 +18,7 @@ mod place;
 mod reader;
 mod sharpsign;
 mod sign;
+mod small;
 mod stack;
 mod string;
 mod token;
@@ -26,6 +27,7 @@ mod word;
 pub use datum::{Datum, FloatFormat, Form, Literal, Span};
 pub use fault::ReadError;
 pub use reader::{MAX_LEN, one_answer, read_text};
+pub use small::SmallRat;
 
 #[cfg(test)]
 mod tests;

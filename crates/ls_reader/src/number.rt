@@ -8,6 +8,7 @@ ghost use Rattle.ls_reader.specs.Tokens.{are_bits};
 
 use crate::datum::{FloatFormat, Form, Literal};
 use crate::fault::FaultKind;
+use crate::small::SmallRat;
 use crate::token::Token;
 use ls_object::Rat;
 
@@ -196,7 +197,7 @@ fn literal(negative: bool, size: u128, below: u128) -> Literal
         return Literal::Wide;
     }
     match Rat::new(signed(negative, size), den) {
-        Some(value) => Literal::Value(value),
+        Some(value) => Literal::Value(SmallRat { value }),
         None => Literal::Wide,
     }
 }

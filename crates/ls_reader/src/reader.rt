@@ -1,9 +1,9 @@
-ghost use Rattle.std.specs.Prelude.{ℕ, List, ◌≡◌, ◌≤◌, length, IfOk, IfErr};
+ghost use Rattle.std.specs.Prelude.{ℕ, List, ◌≡◌, ◌≤◌, ◌⊎◌, length, IfOk, IfErr};
 ghost use Rattle.std.specs.Str.{chars, IsUtf8, IsValidUpTo};
 ghost use Rattle.std.specs.Str.Lossy.{utf8_valid_len};
 ghost use Rattle.ls_reader.specs.Forms.{Forms, FormsIn};
 ghost use Rattle.ls_reader.specs.Faults.{Fault};
-ghost use Rattle.ls_reader.specs.Answers.{FailsIn, FailsAt, IsFaultOf, ReadsAs, RefusesAs};
+ghost use Rattle.ls_reader.specs.Answers.{FailsIn, FailsAt, IsFaultOf, HasForms, HasFault, ReadsAs, RefusesAs};
 ghost use Rattle.ls_reader.specs.Running.{reading, advance, Turns, IsSmall, IsWithin, failure_at};
 ghost use Rattle.ls_reader.specs.declared.datum.Datum.{Datum};
 ghost use Rattle.ls_reader.specs.declared.place.Place.{Place};
@@ -152,9 +152,10 @@ pub fn read_text(alloc: Global, bytes: &[u8]) -> Result<Items<Datum>, ReadError>
     }
 }
 
-/// The law that a text is at most one list of forms, has at most one fault, and never both. It is one about the
-/// definitions, so there is nothing to do.
+/// The law that each text is one list of forms or has one fault, and never both. It is one about the definitions, so
+/// there is nothing to do.
 pub fn one_answer()
+    ensures some { (bytes : List ℕ) → HasForms bytes ⊎ HasFault bytes }
     ensures forms { (bytes : List ℕ) (fs gs : List Datum) → Forms bytes fs → Forms bytes gs → fs ≡ gs }
     ensures fault { (bytes : List ℕ) (k l : FaultKind) (p q : Place) → Fault bytes k p → Fault bytes l q → (k ≡ l) × (p ≡ q) }
     ensures apart { (bytes : List ℕ) (fs : List Datum) (k : FaultKind) (p : Place) → Forms bytes fs → Fault bytes k p → ⊥ }

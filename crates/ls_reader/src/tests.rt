@@ -74,7 +74,9 @@ fn describe_prefixed(
 fn describe_atom(out: &mut String, form: &Form) -> Result<(), AllocError> {
     match form {
         Form::Symbol(symbol) => describe_symbol(out, symbol.package.as_str(), symbol.name.as_str()),
-        Form::Number(Literal::Value(value)) => write!(out, "{}/{}", value.num, value.den),
+        Form::Number(Literal::Value(small)) => {
+            write!(out, "{}/{}", small.value.num, small.value.den)
+        }
         Form::Number(Literal::Wide) => out.push_str("wide"),
         Form::Float(FloatFormat::Single) => out.push_str("single"),
         Form::Float(FloatFormat::Double) => out.push_str("double"),

@@ -1,5 +1,5 @@
--- A text is at most one list of forms, or has one fault, and never both.
-use Rattle.std.proofs.Common.{◌≡◌, ℕ, zero, suc, ◌+◌, ◌-◌, ◌≤◌, inl, inr, List, [], ◌∷◌, ◌++◌, length, Result, Ok, Err, refl, sym, ap, ◌∙◌, arith, length-append, zero-add}
+-- A text is one list of forms or has one fault, and never both.
+use Rattle.std.proofs.Common.{◌≡◌, ℕ, zero, suc, ◌+◌, ◌-◌, ◌<◌, ◌≤◌, inl, inr, List, [], ◌∷◌, ◌++◌, length, Result, Ok, Err, refl, sym, ap, ◌∙◌, arith, length-append, zero-add}
 use Rattle.ls_reader.specs.declared.place.Place.{Place}
 use Rattle.ls_reader.specs.declared.datum.Datum.{Datum}
 use Rattle.ls_reader.specs.declared.builder.Builder.{Builder}
@@ -16,7 +16,7 @@ use Rattle.ls_reader.specs.Faults.{FaultNext, FaultIn}
 use Rattle.ls_reader.specs.Running.{Reading, stepped, advance}
 use Rattle.ls_reader.proofs.LexemeLemmas.{lexeme_again, some_text}
 use Rattle.ls_reader.proofs.StuckLemmas.{stuck_again, stuck_front}
-use Rattle.ls_reader.proofs.TurnLemmas.{used_is, after_all-append}
+use Rattle.ls_reader.proofs.TurnLemmas.{used_is, after_all-append, Stands, Turned, turned, stands_start, Finished, finished}
 use Rattle.ls_reader.proofs.BuilderLemmas.{builder_of}
 use Rattle.ls_reader.proofs.RunLemmas.{then, run, run_piece, runs}
 use Rattle.ls_reader.proofs.RefusalLemmas.{refused_again}
@@ -114,3 +114,38 @@ fault_again n at place (c ∷ cs) whole w k (inr h) =
 pub fault_outcome : (cs : List ℕ) (k : FaultKind) (place : Place) → FaultIn cs k place → outcome cs ≡ Err (k, place)
 fault_outcome cs k place f =
     outcome_lexed cs f.rest f.lexemes f.whole f.w f.lexed f.begun ∙ fault_again (length cs - length f.lexemes) (after_all start (text_of f.lexemes)) place f.rest f.whole f.w k f.fault
+
+-- ---- each text has an outcome
+
+-- an outcome that the text has: its forms, or its first fault
+abbrev pub Settles : List ℕ → Result (List Datum) (FaultKind × Place) → Type 0
+Settles cs (Ok fs) = FormsIn cs fs
+Settles cs (Err x) = FaultIn cs x.0 x.1
+
+-- the end of a text comes to its forms, or to a construct that is not ended
+ended_settles : (cs : List ℕ) (at : Place) (f : Result (List Datum) Place) → Finished cs f → Settles cs (ended at f)
+unfolding ended
+ended_settles cs at (Ok fs) h = h
+ended_settles cs at (Err p) h = h
+
+-- a turn comes to the first fault, or to what the turns after it come to
+next_settles : (cs : List ℕ) (n : ℕ) (at : Place) (r : Reading) (turn : Result Reading Found) → Turned cs r turn → 0 < length r.rest → length r.rest ≤ suc n
+    → (f : Reading → Result (List Datum) (FaultKind × Place)) → ((s : Reading) → Stands cs s → length s.rest ≤ n → Settles cs (f s)) → Settles cs (next f at turn)
+unfolding next
+next_settles cs n at r (Ok s) h some few f settles = settles s h.0 (omega (arith, h.1, few))
+next_settles cs n at r (Err x) h some few f settles = h some
+
+-- the turns of a reader that stands in a text come to what the text has
+read_settles : (cs : List ℕ) (n : ℕ) (at : Place) (rest : List ℕ) (b : Builder) → Stands cs (record { at = at; rest = rest; builder = b }) → length rest ≤ n → Settles cs (read n at rest b)
+unfolding read
+read_settles cs n at [] b s few = ended_settles cs at (finish b) (finished cs (record { at = at; rest = []; builder = b }) s refl)
+read_settles cs zero at (c ∷ rest) b s few = absurd (omega arith)
+read_settles cs (suc n) at (c ∷ rest) b s few =
+    let r : Reading = record { at = at; rest = c ∷ rest; builder = b } in
+    next_settles cs n at r (advance r) (turned cs r s) (omega arith) few (λ t. read n t.at t.rest t.builder)
+    (λ t stands less. read_settles cs n t.at t.rest t.builder stands less)
+
+-- what the turns of a text come to is what the text has
+pub outcome_settles : (cs : List ℕ) → Settles cs (outcome cs)
+unfolding outcome
+outcome_settles cs = read_settles cs (suc (length cs)) start cs nothing (stands_start cs) (omega arith)
