@@ -13,7 +13,7 @@ use Rattle.ls_object.specs.Universe.{LispObject, node, LispShape, number, charac
 use Rattle.ls_object.specs.ObjectText.{object_text, shape_text, rest_text, number_text, symbol_text, kind_text, is_nil, is_text, is_digit, is_bare_char, is_barred_start}
 use Rattle.ls_object.proofs.ReadingLemmas.{or_true, is_end, same_head, same_tail}
 use Rattle.ls_object.proofs.NameTextLemmas.{is_name_start}
-use Rattle.ls_object.proofs.SymbolTextLemmas.{same_symbol, same_text, symbol_start, is_symbol_start}
+use Rattle.ls_object.proofs.SymbolTextLemmas.{one_symbol, same_text, symbol_start, is_symbol_start}
 use Rattle.ls_object.proofs.NumberTextLemmas.{same_number, number_start, number_some, is_number_start}
 use Rattle.ls_object.proofs.CharacterTextLemmas.{same_character}
 use Rattle.ls_object.proofs.ArrayTextLemmas.{same_array, same_kind}
@@ -134,7 +134,7 @@ same_atom : (a b : LispShape) (r s : List ℕ) → IsSoundShape a → IsSoundSha
 same_atom (number n d) (number m e) r s ha hb atom hr hs h = let both = same_number n m d e r s hr hs h in (cc (both.0, both.1), both.2)
 same_atom (character c) (character d) r s ha hb atom hr hs h = let both = same_character c d r s ha hb hr hs h in (ap character both.0, both.1)
 same_atom (symbol x) (symbol y) r s ha hb atom hr hs h =
-    let both = same_symbol false x y r s hr hs (ap (λ t. t ++ r) (append-nil (symbol_text x)) ∙ h ∙ ap (λ t. t ++ s) (sym (append-nil (symbol_text y)))) in
+    let both = one_symbol false x y r s hr hs (ap (λ t. t ++ r) (append-nil (symbol_text x)) ∙ h ∙ ap (λ t. t ++ s) (sym (append-nil (symbol_text y)))) in
     (ap symbol both.0, both.1)
 same_atom (pair car cdr) b r s ha hb atom hr hs h = absurd (atom refl)
 same_atom (array c a ns) (array d b ms) r s ha hb atom hr hs h =
@@ -142,7 +142,7 @@ same_atom (array c a ns) (array d b ms) r s ha hb atom hr hs h =
     (cc (all.0, all.1, all.2), all.3)
 same_atom (structure x) (structure y) r s ha hb atom hr hs h =
     let inner = append_cancel_left (codes "#<STRUCTURE ") (symbol_text x ++ codes ">" ++ r) (symbol_text y ++ codes ">" ++ s) h in
-    let both = same_symbol true x y r s hr hs inner in
+    let both = one_symbol true x y r s hr hs inner in
     (ap structure both.0, both.1)
 same_atom (opaque k) (opaque j) r s ha hb atom hr hs h =
     let both = same_kind k j r s hr hs (same_tail 60 60 (kind_text k ++ codes ">" ++ r) (kind_text j ++ codes ">" ++ s) (same_tail 35 35 (60 ∷ (kind_text k ++ codes ">" ++ r)) (60 ∷ (kind_text j ++ codes ">" ++ s)) h)) in

@@ -1,8 +1,9 @@
 -- Structure inclusion (DEFSTRUCT, the option :INCLUDE).
-use Rattle.std.specs.Prelude.{[], ◌∷◌, ◌++◌, Option, Some}
+use Rattle.std.specs.Prelude.{[], ◌∷◌, ◌++◌, Bool, ◌||◌, if◌then◌else◌, Option, Some, None, reverse}
 use Rattle.std.specs.List.{Contains}
 use Rattle.std.specs.Option.{ForSome}
 use Rattle.ls_object.specs.declared.symbol.Symbol.{Symbol}
+use Rattle.ls_object.specs.Symbols.{same_symbol}
 use Rattle.ls_object.specs.Universe.{Structures, IsStructureOf}
 
 -- the name x is y, or x includes a name that is under y
@@ -22,3 +23,14 @@ AreIncludedBefore before (pair ∷ more) = MayFollow before pair × AreIncludedB
 -- the structure types have different names, and each included one stands before
 abbrev pub IsInclusionOrder : Structures → Type 0
 IsInclusionOrder structures = AreIncludedBefore [] structures
+
+-- whether the name x is y, or leads to it by names that are included; of the structure types the last stands first
+abbrev pub leads : Structures → Symbol → Symbol → Bool
+leads [] x y = same_symbol x y
+leads ((name, None) ∷ earlier) x y = if same_symbol name x then same_symbol x y else leads earlier x y
+leads ((name, Some z) ∷ earlier) x y =
+    if same_symbol name x then same_symbol x y || leads earlier z y else leads earlier x y
+
+-- whether the name x is under y, for structure types each of which stands behind the one that it includes
+abbrev pub under_in : Structures → Symbol → Symbol → Bool
+under_in structures x y = leads (reverse structures) x y

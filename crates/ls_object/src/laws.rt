@@ -2,8 +2,11 @@
 // contract.
 
 ghost use Rattle.std.specs.Prelude.{◌≡◌, [], ◌∷◌, map, slice_get};
+ghost use Rattle.std.specs.Bool.{Decides};
+ghost use Rattle.ls_object.specs.declared.symbol.Symbol.{Symbol};
 ghost use Rattle.ls_object.specs.Universe.{LispObject, Structures, IsObject, IsPlain};
 ghost use Rattle.ls_object.specs.ObjectText.{object_text};
+ghost use Rattle.ls_object.specs.Inclusion.{Under, under_in, IsInclusionOrder};
 ghost use Rattle.ls_object.specs.Limits.{numerator_limit, greatest_denominator};
 ghost use Rattle.ls_object.specs.Table.{extent};
 ghost use Rattle.ls_object.specs.Entries.{entries_and_extents};
@@ -18,6 +21,13 @@ use crate::table::{
 pub fn one_text_one_object()
     ensures { (structures : Structures) (o p : LispObject)
         → IsObject structures o → IsObject structures p → IsPlain o → IsPlain p → object_text o ≡ object_text p → o ≡ p }
+{}
+
+/// For structure types each of which stands behind the one that it includes, `under_in` says which name is under
+/// which.
+pub fn inclusion_is_decided()
+    ensures { (structures : Structures) (x y : Symbol)
+        → IsInclusionOrder structures → Decides (under_in structures x y) (Under structures x y) }
 {}
 
 /// The limits of the rationals: a numerator's absolute value is below 2^66, a denominator at most 2^61.

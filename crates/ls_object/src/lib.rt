@@ -19,8 +19,8 @@ mod write;
 pub use dims::Dims;
 pub use kind::Kind;
 pub use laws::{
-    entries_of_the_table, limits_of_rationals, named_codes, one_text_one_object,
-    places_of_the_table,
+    entries_of_the_table, inclusion_is_decided, limits_of_rationals, named_codes,
+    one_text_one_object, places_of_the_table,
 };
 pub use object::{Object, Shape};
 pub use parents::Parents;

@@ -1,7 +1,7 @@
 ghost use Rattle.std.specs.Prelude.{◌≡◌, [], ◌∷◌, ◌++◌, ◌↔◌, IfOk, OnOk, OnErr, IsTrue};
 ghost use Rattle.std.specs.Option.{ForSome};
 ghost use Rattle.ls_object.specs.Universe.{IsStructureOf};
-ghost use Rattle.ls_object.specs.Inclusion.{Under, IsInclusionOrder};
+ghost use Rattle.ls_object.specs.Inclusion.{Under, under_in, IsInclusionOrder};
 
 use crate::symbol::Symbol;
 use sqlite_items::Items;
@@ -71,7 +71,8 @@ impl Parents {
     /// Whether `x` is `y`, or includes it directly or through others. A name that is none of the structure
     /// types is under itself alone.
     pub fn is_under(&self, x: &Symbol, y: &Symbol) -> bool
-        ensures { IsTrue result ↔ Under self.now x.now y.now }
+        ensures value { result ≡ under_in self.now x.now y.now }
+        ensures under { IsTrue result ↔ Under self.now x.now y.now }
     {
         leads(self.pairs.as_slice(), x, y)
     }
@@ -90,8 +91,7 @@ impl Parents {
 /// Whether `x` is `y`, or includes it directly or through others. It goes from the last structure type to the
 /// first, since each stands behind the one that it includes.
 fn leads(pairs: &[(Symbol, Option<Symbol>)], x: &Symbol, y: &Symbol) -> bool
-    requires { IsInclusionOrder pairs.now }
-    ensures { IsTrue result ↔ Under pairs.now x.now y.now }
+    ensures { result ≡ under_in pairs.now x.now y.now }
 {
     let mut name = x;
     let mut rest = pairs;
