@@ -1,10 +1,7 @@
 -- The source and the sink over memory, as contracts see them, and what exactly one call does to them.
-use Rattle.std.specs.Prelude.{◌≡◌, ℕ, ◌+◌, ◌-◌, ◌^◌, ◌==◌, ◌≤◌, min, List, [], ◌++◌, length, take, drop, Bool, true, false, ◌||◌, nat_lt, Result, MatchResult}
+use Rattle.std.specs.Prelude.{◌≡◌, ℕ, ◌+◌, ◌==◌, ◌≤◌, min, List, [], ◌++◌, length, take, drop, Bool, true, false, ◌||◌, nat_lt, Result, MatchResult}
 use Rattle.std.specs.List.{list_any}
-
--- A count raised by one. It stands still at the greatest u64.
-abbrev pub raised : ℕ → ℕ
-raised count = min (count + 1) (2 ^ 64 - 1)
+use Rattle.ls_io.specs.Causes.{raised}
 
 -- Whether the call after so many calls is among those that are to fail, which are numbered from 1.
 abbrev pub is_next_failing : List ℕ → ℕ → Bool

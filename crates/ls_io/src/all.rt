@@ -37,7 +37,7 @@ impl From<AllocError> for ReadFault {
 /// Reads a source to its end. `Ok` is all that was left, at most `LIMIT` bytes.
 ///
 /// It ends after at most `LIMIT + 1` calls of `read`: each call but the last gives a byte at least, and these
-/// bytes are at most `LIMIT`.
+/// bytes are at most `LIMIT`. None of these calls is a second attempt after a failed one.
 pub fn read_all<S: Source>(alloc: Global, source: &mut S) -> Result<Vec<u8>, ReadFault>
     // The answer is all that was left, and nothing is left then.
     ensures all { IfOk result (λ text. Gave (S.left source.old) (S.left source.new) text.items) }
@@ -50,11 +50,16 @@ pub fn read_all<S: Source>(alloc: Global, source: &mut S) -> Result<Vec<u8>, Rea
     ensures too_long { IsErrOf result ReadFault.TooLong → GaveCount (S.left source.old) (S.left source.new) (limit + 1) }
     ensures not_too_long { (IsErrOf result ReadFault.TooLong → ⊥) → GaveAtMost (S.left source.old) (S.left source.new) limit }
 
-    // A read failed only where the count rose, and none of a source that does not fail.
+    // A read failed only where the count rose, which it does at a fault alone, and none of a source that does not
+    // fail.
     ensures later { S.failures source.old ≤ S.failures source.new }
     ensures fault { IsErrOf result ReadFault.Fault → Rose (S.failures source.old) (S.failures source.new) }
+    ensures quiet { (IsErrOf result ReadFault.Fault → ⊥) → S.failures source.new ≡ S.failures source.old }
     ensures sound { S.is_sound source.old → (IsErrOf result ReadFault.Fault → ⊥) × S.is_sound source.new
         × (S.failures source.new ≡ S.failures source.old) }
+
+    // There is at most one call more than the bytes that it may take.
+    ensures calls { S.calls source.new ≤ S.calls source.old + limit + 1 }
 
     // After a refusal the source has given a prefix of what it had left.
     ensures refused { OnErr result (GaveSome (S.left source.old) (S.left source.new)) }
@@ -82,9 +87,11 @@ pub fn write_all<K: Sink>(sink: &mut K, bytes: &[u8]) -> Result<(), SinkFail>
     ensures all { OnOk result (Took (K.written sink.old) (K.written sink.new) bytes.now) }
     ensures refused { OnErr result (TookPrefix (K.written sink.old) (K.written sink.new) bytes.now) }
 
-    // A write failed only where the count rose, and none of a sink with room for the bytes.
+    // A write failed only where the count rose, which it does at a refusal alone, and none of a sink with room for
+    // the bytes.
     ensures later { K.failures sink.old ≤ K.failures sink.new }
     ensures fault { OnErr result (Rose (K.failures sink.old) (K.failures sink.new)) }
+    ensures quiet { OnOk result (K.failures sink.new ≡ K.failures sink.old) }
     ensures sound { (room : ℕ) → K.has_room sink.old room → length bytes.now ≤ room
         → IsOk result × K.has_room sink.new (room - length bytes.now) × (K.failures sink.new ≡ K.failures sink.old) }
 {

@@ -1,5 +1,6 @@
 ghost use Rattle.std.specs.Prelude.{◌≡◌};
-ghost use Rattle.ls_io.specs.Mem.{is_next_failing, raised};
+ghost use Rattle.ls_io.specs.Causes.{raised};
+ghost use Rattle.ls_io.specs.Mem.{is_next_failing};
 
 /// Whether the call after so many calls is one that is to fail, where calls are numbered from 1.
 pub(crate) fn is_next_failing(failing: &[u64], calls: u64) -> bool

@@ -1,6 +1,6 @@
 ghost use Rattle.std.specs.Prelude.{◌≡◌, ◌<◌, [], length, take, Some, IfOk, IsOk};
 ghost use Rattle.std.specs.Io.{ReadsAtMost};
-ghost use Rattle.ls_io.specs.Causes.{HasCause};
+ghost use Rattle.ls_io.specs.Causes.{HasCause, raised};
 ghost use Rattle.ls_io.specs.Moves.{ReadGives};
 ghost use Rattle.ls_io.specs.Mem.{ReadsPiece};
 
@@ -79,6 +79,8 @@ impl Source for MemSource {
 
     ghost failures = { λ s. s.faults };
 
+    ghost calls = { λ s. s.calls };
+
     ghost is_sound = { λ s. s.failing ≡ [] };
 
     fn faults(&self) -> u64 {
@@ -90,6 +92,7 @@ impl Source for MemSource {
         ensures bound { ReadsAtMost result buf.new }
         ensures bytes { ReadGives (Some self.old.left) (Some self.new.left) result buf.new }
         ensures cause { HasCause self.old.faults self.new.faults result }
+        ensures call { self.new.calls ≡ raised self.old.calls }
         ensures sound { self.old.failing ≡ [] → IsOk result × (self.new.failing ≡ []) × (self.new.faults ≡ self.old.faults) }
         ensures piece { ReadsPiece self.old self.new result buf.new }
     {

@@ -1,7 +1,7 @@
 ghost use Rattle.std.specs.Prelude.{◌≡◌, None};
 ghost use Rattle.std.specs.Io.{ReadsAtMost};
 ghost use Rattle.std.specs.Io.KnownBytes.{ReadConsumes, WriteAppends};
-ghost use Rattle.ls_io.specs.Causes.{HasCause};
+ghost use Rattle.ls_io.specs.Causes.{HasCause, CountsOnce, raised};
 ghost use Rattle.ls_io.specs.Moves.{ReadGives, WriteTakes, TakesSome};
 
 use super::counts::raised;
@@ -13,16 +13,22 @@ use std::io::{Read, Write};
 #[derive(Drop)]
 pub struct StdSource<R: Read> {
     reader: R,
+    calls: u64,
     faults: u64,
 }
 
 impl<R: Read> StdSource<R> {
-    /// A source over the reader. No call has failed yet.
+    /// A source over the reader. No call was made yet.
     pub fn new(reader: R) -> StdSource<R>
         ensures reader { result.reader ≡ reader }
+        ensures calls { result.calls ≡ 0 }
         ensures faults { result.faults ≡ 0 }
     {
-        StdSource { reader, faults: 0 }
+        StdSource {
+            reader,
+            calls: 0,
+            faults: 0,
+        }
     }
 }
 
@@ -31,17 +37,23 @@ impl<R: Read> Source for StdSource<R> {
 
     ghost failures = { λ s. s.faults };
 
+    ghost calls = { λ s. s.calls };
+
     fn faults(&self) -> u64 {
         self.faults
     }
 
-    // The last clause adds what the reader itself tells: the bytes come from it, and 0 only at its end.
+    // The last clauses add that a failure counts once, and what the reader itself tells: the bytes come from it,
+    // and 0 only at its end.
     fn read(&mut self, buf: &mut [u8]) -> Result<usize, SourceFail>
         ensures bound { ReadsAtMost result buf.new }
         ensures bytes { ReadGives None None result buf.new }
         ensures cause { HasCause self.old.faults self.new.faults result }
+        ensures call { self.new.calls ≡ raised self.old.calls }
+        ensures once { CountsOnce self.old.faults self.new.faults result }
         ensures reader { ReadConsumes (R.remaining self.old.reader) (R.remaining self.new.reader) result buf.new }
     {
+        self.calls = raised(self.calls);
         match self.reader.read(buf) {
             Ok(count) => Ok(count),
             Err(_) => {
@@ -79,11 +91,12 @@ impl<W: Write> Sink for StdSink<W> {
         self.faults
     }
 
-    // The last clause adds what the writer itself tells: the bytes went to it.
+    // The last clauses add that a failure counts once, and what the writer itself tells: the bytes went to it.
     fn write(&mut self, bytes: &[u8]) -> Result<usize, SinkFail>
         ensures some { TakesSome result bytes.now }
         ensures bytes { WriteTakes None None result bytes.now }
         ensures cause { HasCause self.old.faults self.new.faults result }
+        ensures once { CountsOnce self.old.faults self.new.faults result }
         ensures writer { WriteAppends (W.contents self.old.writer) (W.contents self.new.writer) result bytes.now }
     {
         match self.writer.write(bytes) {

@@ -1,6 +1,6 @@
 ghost use Rattle.std.specs.Prelude.{◌≡◌, ◌-◌, ◌≤◌, ℕ, List, Option, length, IsOk, IfOk};
 ghost use Rattle.std.specs.Io.{ReadsAtMost};
-ghost use Rattle.ls_io.specs.Causes.{HasCause};
+ghost use Rattle.ls_io.specs.Causes.{HasCause, raised};
 ghost use Rattle.ls_io.specs.Moves.{ReadGives, WriteTakes, TakesSome};
 
 /// A read failed, and the source's count of failures rose.
@@ -20,6 +20,9 @@ pub trait Source {
     /// How many calls of `read` failed so far.
     ghost failures: { Self → ℕ };
 
+    /// How many calls of `read` were made so far.
+    ghost calls: { Self → ℕ };
+
     /// No later call of `read` will fail. A source that cannot know this never claims it.
     ghost is_sound: { Self → Type 0 } = { λ _. ⊥ };
 
@@ -32,11 +35,12 @@ pub trait Source {
     /// After `Ok(n)` the first n bytes of what was left are the first n of the buffer, and no longer left;
     /// nothing is said of the buffer behind them. `Ok(0)` into a buffer that is not empty is the end of the
     /// input: nothing is left. `Err` comes only where the count of failures rose, and leaves what is left
-    /// as it was.
+    /// as it was. At `Ok` the count of failures is as it was.
     fn read(&mut self, buf: &mut [u8]) -> Result<usize, SourceFail>
         ensures bound { ReadsAtMost result buf.new }
         ensures bytes { ReadGives (left self.old) (left self.new) result buf.new }
         ensures cause { HasCause (failures self.old) (failures self.new) result }
+        ensures call { calls self.new ≡ raised (calls self.old) }
         ensures sound { is_sound self.old → IsOk result × is_sound self.new × (failures self.new ≡ failures self.old) };
 }
 
@@ -59,7 +63,8 @@ pub trait Sink {
     /// Writes some of the bytes.
     ///
     /// After `Ok(n)` the first n of them stand behind what was written before; n is 0 only where there are
-    /// no bytes. `Err` comes only where the count of failures rose, and leaves what was written as it was.
+    /// no bytes. `Err` comes only where the count of failures rose, and leaves what was written as it was. At
+    /// `Ok` the count of failures is as it was.
     fn write(&mut self, bytes: &[u8]) -> Result<usize, SinkFail>
         ensures some { TakesSome result bytes.now }
         ensures bytes { WriteTakes (written self.old) (written self.new) result bytes.now }

@@ -8,12 +8,12 @@ pub loop-at-preserved : goal.loop-at-preserved
 loop-at-preserved g c = record {
   within = omega (arith, c.in-Ok.ensures);
   taken = Took-more _ _ _ _ _ _ c.loop-at.invariant.taken c.in-Ok.ensures.bytes;
-  later = omega (arith, c.loop-at.invariant.later, c.write.ensures.cause.later);
+  quiet = c.in-Ok.ensures.cause.passed ∙ c.loop-at.invariant.quiet;
   sound = λ room enough fits.
       (let prior = c.loop-at.invariant.sound room enough fits in
       let left = length c.args.bytes.now - c.loop-at.at in
       let short : length (take left (drop c.loop-at.at c.args.bytes.now)) ≤ room - c.loop-at.at = omega (arith, fits, length-take left (drop c.loop-at.at c.args.bytes.now)) in
-      let step = c.in-Ok.ensures.sound (room - c.loop-at.at) prior.0 short in
+      let step = c.in-Ok.ensures.sound (room - c.loop-at.at) prior short in
       let rest : room - c.loop-at.at - c.in-Ok.count ≡ room - (c.loop-at.at + c.in-Ok.count) = omega arith in
-      (subst (λ more. g.K.Sink.has_room c.write.new.self more) rest step.1, step.2 ∙ prior.1));
+      subst (λ more. g.K.Sink.has_room c.write.new.self more) rest step.1);
 }
