@@ -7,4 +7,5 @@ pub mod RegionsLemmas
 pub mod FitsLemmas
 pub mod BuiltinLemmas
 pub mod KeyLemmas
+pub mod DistinctLemmas
 pub mod FindingLemmas

@@ -1,5 +1,5 @@
 -- The lower and the upper approximation of a specifier, in which no predicate stands outside element types.
-use Rattle.std.specs.Prelude.{Bool, true, false, not, if◌then◌else◌}
+use Rattle.std.specs.Prelude.{Bool, true, false, not, ◌||◌, if◌then◌else◌}
 use Rattle.ls_spec.specs.Specifier.{Specifier, all_objects, no_objects, and_of, or_of, not_of, eql_to, range_of, chars_of, symbols_of, kind_of, structure_under, any_structure, array_any, array_of, string_of, cons_of, satisfies, Specifiers, no_more, also}
 
 -- Each predicate outside element types is made T where `upper` is true and NIL where it is false. NOT
@@ -49,3 +49,28 @@ abbrev mutual
   pub HaveNoPredicate : Specifiers → Type 0
   HaveNoPredicate no_more = Unit {0}
   HaveNoPredicate (also s ss) = HasNoPredicate s × HaveNoPredicate ss
+
+-- whether a predicate stands outside element types
+abbrev mutual
+  pub has_free_predicate : Specifier → Bool
+  has_free_predicate (and_of ss) = some_has_free_predicate ss
+  has_free_predicate (or_of ss) = some_has_free_predicate ss
+  has_free_predicate (not_of s) = has_free_predicate s
+  has_free_predicate (cons_of a b) = has_free_predicate a || has_free_predicate b
+  has_free_predicate (satisfies p) = true
+  has_free_predicate all_objects = false
+  has_free_predicate no_objects = false
+  has_free_predicate (eql_to p) = false
+  has_free_predicate (range_of k lo hi) = false
+  has_free_predicate (chars_of k) = false
+  has_free_predicate (symbols_of k) = false
+  has_free_predicate (kind_of k) = false
+  has_free_predicate (structure_under name) = false
+  has_free_predicate any_structure = false
+  has_free_predicate (array_any simple dims) = false
+  has_free_predicate (array_of e simple dims) = false
+  has_free_predicate (string_of simple dim) = false
+
+  pub some_has_free_predicate : Specifiers → Bool
+  some_has_free_predicate no_more = false
+  some_has_free_predicate (also s ss) = has_free_predicate s || some_has_free_predicate ss

@@ -1,9 +1,11 @@
 -- The atoms of a list of specifiers.
 use Rattle.std.specs.Prelude.{List, [], ◌∷◌, ◌++◌}
-use Rattle.std.specs.List.{Contains}
 use Rattle.ls_spec.specs.Specifier.{Specifier, all_objects, no_objects, and_of, or_of, not_of, eql_to, range_of, chars_of, symbols_of, kind_of, structure_under, any_structure, array_any, array_of, string_of, cons_of, satisfies, Specifiers, no_more, also}
+use Rattle.ls_spec.specs.Meaning.{specifiers_of}
+use Rattle.ls_spec.specs.Distinct.{distinct}
 
--- the specifiers other than T, NIL, AND, OR and NOT that are reached through AND, OR and NOT, in order, with repeats
+-- the specifiers other than T, NIL, AND, OR and NOT that are reached through AND, OR and NOT, in order,
+-- with repeats
 abbrev mutual
   pub leaves : Specifier → List Specifier
   leaves all_objects = []
@@ -28,12 +30,7 @@ abbrev mutual
   leaves_of_all no_more = []
   leaves_of_all (also s ss) = leaves s ++ leaves_of_all ss
 
--- `distinct` has the elements of the list that are not in `seen`, each once, in order of first occurrence
-pub data AreDistinctPast {A : Type 0} : List A → List A → List A → Type 0 where
-  at_end : {seen : List A} → AreDistinctPast seen [] []
-  again : {seen list distinct : List A} {x : A} → Contains seen x → AreDistinctPast seen list distinct → AreDistinctPast seen (x ∷ list) distinct
-  first : {seen list distinct : List A} {x : A} → (Contains seen x → ⊥) → AreDistinctPast (x ∷ seen) list distinct → AreDistinctPast seen (x ∷ list) (x ∷ distinct)
-
--- the distinct atoms of a list of specifiers, in order of first occurrence
-abbrev pub AreAtoms : Specifiers → List Specifier → Type 0
-AreAtoms ss atoms = AreDistinctPast [] (leaves_of_all ss) atoms
+-- the distinct atoms of a list of specifiers: those other than T, NIL, AND, OR and NOT that are reached from it
+-- through AND, OR and NOT, each once, in order of first occurrence
+abbrev pub atoms_of : List Specifier → List Specifier
+atoms_of list = distinct (leaves_of_all (specifiers_of list))

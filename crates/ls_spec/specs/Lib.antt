@@ -9,4 +9,5 @@ pub mod Regions
 pub mod Fits
 pub mod Builtins
 pub mod Keys
-pub mod Finding
+pub mod Distinct
+pub mod steps

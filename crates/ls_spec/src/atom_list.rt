@@ -2,8 +2,9 @@
 
 ghost use Rattle.std.specs.Prelude.{◌≡◌, [], map, IfOk, OnOk, fold};
 ghost use Rattle.ls_spec.specs.Meaning.{specifier, specifiers};
-ghost use Rattle.ls_spec.specs.Atoms.{AreAtoms, leaves, leaves_of_all};
-ghost use Rattle.ls_spec.specs.Finding.{with_new, AreKeysOf};
+ghost use Rattle.ls_spec.specs.Atoms.{atoms_of, leaves, leaves_of_all};
+ghost use Rattle.ls_spec.specs.Distinct.{with_new};
+ghost use Rattle.ls_spec.specs.steps.Finding.{AreKeysOf};
 
 use crate::key::key_of;
 use crate::spec::Spec;
@@ -14,7 +15,7 @@ use std::alloc::{AllocError, Global};
 /// The distinct specifiers other than T, NIL, AND, OR and NOT that are reached from those of the list through AND,
 /// OR and NOT, in order of first occurrence. Repeats are found by a look-up.
 pub fn atoms(alloc: Global, list: &Items<Spec>) -> Result<Items<Spec>, AllocError>
-    ensures { IfOk result (λ found. AreAtoms (specifiers list.now) (map specifier found)) }
+    ensures { IfOk result (λ found. map specifier found ≡ atoms_of (map specifier list.now)) }
 {
     let mut seen = IndexSet::new(alloc);
     let mut found = Items::new(alloc);

@@ -9,8 +9,8 @@ use crate::spec::{Bound, CharClass, DimPattern, Point, RangeKind, Spec, SymClass
 use ls_object::{Rat, Symbol, Text};
 use std::alloc::{AllocError, Global};
 
-/// The key of a specifier: numbers that no other specifier has.
-pub(crate) fn key_of(alloc: Global, spec: &Spec) -> Result<Vec<u128>, AllocError>
+/// The key of a specifier: numbers that no other specifier has, in time linear in its size.
+pub fn key_of(alloc: Global, spec: &Spec) -> Result<Vec<u128>, AllocError>
     ensures { IfOk result (λ k. k.items ≡ key (specifier spec.now)) }
 {
     let mut out = Vec::new(alloc);

@@ -1,10 +1,12 @@
 // Laws about the definitions in specs/. Each function is empty: all that it gives is its contract.
 
-ghost use Rattle.std.specs.Prelude.{ℕ, ◌≡◌};
+ghost use Rattle.std.specs.Prelude.{ℕ, ◌≡◌, List};
+ghost use Rattle.std.specs.Bool.{Decides};
 ghost use Rattle.ls_object.specs.Universe.{LispObject, Structures};
 ghost use Rattle.ls_spec.specs.Specifier.{Specifier};
 ghost use Rattle.ls_spec.specs.Membership.{Belongs, UpgradesTo};
 ghost use Rattle.ls_spec.specs.Approximation.{low, high, HasNoPredicate};
+ghost use Rattle.ls_spec.specs.Distinct.{same, distinct, AreDistinctOf};
 ghost use Rattle.ls_spec.specs.Inclusion.{IsIncluded, IsWitness, IsUnsureWitness};
 
 /// The lower approximation of a specifier lies within it, and the specifier within its upper approximation.
@@ -33,4 +35,13 @@ pub fn one_right_answer()
 /// since this is a law about definitions.
 pub fn one_upgraded_code()
     ensures { (structures : Structures) (e : Specifier) (c d : ℕ) → UpgradesTo structures e c → UpgradesTo structures e d → c ≡ d }
+{}
+
+/// The distinct specifiers of a list are each of its specifiers once, in order of first occurrence. The body is
+/// empty, since this is a law about definitions.
+pub fn distinct_specifiers()
+    // The test by keys tells equality.
+    ensures same { (s t : Specifier) → Decides (same s t) (s ≡ t) }
+    // What it finds is what equality asks for.
+    ensures distinct { (list : List Specifier) → AreDistinctOf list (distinct list) }
 {}

@@ -18,8 +18,8 @@ mod tests;
 
 pub use atom_list::atoms;
 pub use builtin::of_builtin;
-pub use key::key_of_name;
-pub use laws::{approximations, one_right_answer, one_upgraded_code};
+pub use key::{key_of, key_of_name};
+pub use laws::{approximations, distinct_specifiers, one_right_answer, one_upgraded_code};
 pub use limits::{
     DIMENSION_LIMIT, LARGEST_DENOMINATOR, LARGEST_DEPTH, LARGEST_NUMERATOR, LARGEST_RANK,
 };

@@ -1,28 +1,17 @@
 -- The atoms of two types, and objects that are in the same of them.
-use Rattle.std.proofs.Common.{◌↔◌, inl, inr, List, [], ◌∷◌, ◌++◌, map}
+use Rattle.std.proofs.Common.{sym, subst, ◌↔◌, inl, inr, List, [], ◌∷◌, ◌++◌, map}
 use Rattle.std.specs.List.{AllByRecursion}
 use Rattle.ls_object.specs.Universe.{LispObject, Structures}
 use Rattle.ls_spec.specs.declared.spec.Spec.{Spec}
 use Rattle.ls_spec.specs.Specifier.{Specifier, all_objects, no_objects, and_of, or_of, not_of, Specifiers, no_more, also}
 use Rattle.ls_spec.specs.Meaning.{specifier}
-use Rattle.ls_spec.specs.Atoms.{leaves, leaves_of_all, AreDistinctPast, at_end, again, first}
+use Rattle.ls_spec.specs.Atoms.{leaves, leaves_of_all}
 use Rattle.ls_spec.specs.Membership.{Belongs, BelongsToAll, BelongsToSome}
 use Rattle.ls_spec.specs.Regions.{AreInSameAtoms}
+use Rattle.ls_spec.proofs.DistinctLemmas.{all_from_distinct, all_of_distinct}
 use Rattle.ls_spec.proofs.AlikeLemmas.{AllByRecursion-front, AllByRecursion-back}
-use Rattle.ls_spec.proofs.ListLemmas.{AllByRecursion-append, AllByRecursion-contains}
+use Rattle.ls_spec.proofs.ListLemmas.{AllByRecursion-append}
 use Rattle.subtypep_app.specs.Searching.{AreAtomsOfTwo}
-
--- what holds of the distinct elements of a list, and of those before it, holds of the list
-from_distinct : {X : Type 0} (P : X → Type 0) (seen list distinct : List X) → AreDistinctPast seen list distinct → AllByRecursion P seen → AllByRecursion P distinct → AllByRecursion P list
-from_distinct P seen [] distinct at_end s h = tt
-from_distinct P seen (x ∷ list) distinct (again c more) s h = (AllByRecursion-contains P seen x s c, from_distinct P seen list distinct more s h)
-from_distinct P seen (x ∷ list) (y ∷ distinct) (first n more) s h = (h.0, from_distinct P (x ∷ seen) list distinct more (h.0, s) h.1)
-
--- what holds of a list holds of its distinct elements
-to_distinct : {X : Type 0} (P : X → Type 0) (seen list distinct : List X) → AreDistinctPast seen list distinct → AllByRecursion P list → AllByRecursion P distinct
-to_distinct P seen [] distinct at_end h = tt
-to_distinct P seen (x ∷ list) distinct (again c more) h = to_distinct P seen list distinct more h.1
-to_distinct P seen (x ∷ list) (y ∷ distinct) (first n more) h = (h.0, to_distinct P (x ∷ seen) list distinct more h.1)
 
 mutual
   -- two objects that are in the same atoms of a specifier are in the specifier alike
@@ -52,13 +41,13 @@ module _ (P : Specifier → Type 0) where
   -- what holds of the atoms of two types holds of each type's
   pub from_atoms : (a b : Specifier) (atoms : List Spec) → AreAtomsOfTwo a b atoms → AllByRecursion P (map specifier atoms) → AllByRecursion P (leaves a) × AllByRecursion P (leaves b)
   from_atoms a b atoms are h =
-      let whole : AllByRecursion P (leaves a ++ (leaves b ++ [])) = from_distinct P [] (leaves a ++ (leaves b ++ [])) (map specifier atoms) are tt h in
+      let whole : AllByRecursion P (leaves a ++ (leaves b ++ [])) = all_from_distinct P (leaves a ++ (leaves b ++ [])) (subst (AllByRecursion P) are h) in
       (AllByRecursion-front P (leaves a) (leaves b ++ []) whole, AllByRecursion-front P (leaves b) [] (AllByRecursion-back P (leaves a) (leaves b ++ []) whole))
 
   -- what holds of the atoms of each type holds of those of both
   pub to_atoms : (a b : Specifier) (atoms : List Spec) → AreAtomsOfTwo a b atoms → AllByRecursion P (leaves a) → AllByRecursion P (leaves b) → AllByRecursion P (map specifier atoms)
   to_atoms a b atoms are first_all second_all =
-      to_distinct P [] (leaves a ++ (leaves b ++ [])) (map specifier atoms) are (AllByRecursion-append P (leaves a) (leaves b ++ []) first_all (AllByRecursion-append P (leaves b) [] second_all tt))
+      subst (AllByRecursion P) (sym are) (all_of_distinct P (leaves a ++ (leaves b ++ [])) (AllByRecursion-append P (leaves a) (leaves b ++ []) first_all (AllByRecursion-append P (leaves b) [] second_all tt)))
 
   pub unmapped : (atoms : List Spec) → AllByRecursion P (map specifier atoms) → AllByRecursion (λ x. P (specifier x)) atoms
   unmapped [] h = tt

@@ -1,14 +1,14 @@
 -- The search for an object that is in one type and not in another, class by class.
-use Rattle.std.specs.Prelude.{List, [], map, Option, Some, None}
+use Rattle.std.specs.Prelude.{◌≡◌, List, [], ◌∷◌, map, Option, Some, None}
 use Rattle.ls_object.specs.declared.object.Object.{Object}
 use Rattle.ls_object.specs.Universe.{LispObject, node, symbol, pair, array, Structures, IsObject}
 use Rattle.ls_object.specs.Symbols.{nil_symbol}
 use Rattle.ls_object.specs.Meaning.{lisp_object}
 use Rattle.ls_spec.specs.declared.spec.Spec.{Spec}
-use Rattle.ls_spec.specs.Specifier.{Specifier, no_more, also}
+use Rattle.ls_spec.specs.Specifier.{Specifier}
 use Rattle.ls_spec.specs.Meaning.{specifier}
 use Rattle.ls_spec.specs.Membership.{Belongs}
-use Rattle.ls_spec.specs.Atoms.{AreAtoms}
+use Rattle.ls_spec.specs.Atoms.{atoms_of}
 use Rattle.ls_spec.specs.Inclusion.{IsWitness}
 use Rattle.ls_spec.specs.Truth.{IsFlat}
 
@@ -31,7 +31,7 @@ IsFound structures IsOfClass a b (Some o) = IsWitness structures a b (lisp_objec
 
 -- these are the atoms of the two types
 abbrev pub AreAtomsOfTwo : Specifier → Specifier → List Spec → Type 0
-AreAtomsOfTwo a b atoms = AreAtoms (also a (also b no_more)) (map specifier atoms)
+AreAtomsOfTwo a b atoms = map specifier atoms ≡ atoms_of (a ∷ b ∷ [])
 
 -- the numbers, the characters, the symbols and the opaque objects
 abbrev pub IsFlatObject : LispObject → Type 0

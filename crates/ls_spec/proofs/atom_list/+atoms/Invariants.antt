@@ -1,7 +1,8 @@
 use Rattle.std.proofs.Common.{◌≡◌, map, fold, drop}
 use Rattle.ls_spec.specs.Meaning.{specifier, specifiers}
 use Rattle.ls_spec.specs.Atoms.{leaves_of_all}
-use Rattle.ls_spec.specs.Finding.{with_new, AreKeysOf}
+use Rattle.ls_spec.specs.Distinct.{with_new}
+use Rattle.ls_spec.specs.steps.Finding.{AreKeysOf}
 use Rattle.ls_spec.proofs.atom_list.+atoms.Given as goal
 
 abbrev pub invariant-add_all-loop-spec : goal.invariant-add_all-loop-spec
