@@ -1,6 +1,6 @@
 -- The distinct specifiers of a list are those of the list, each once, in order of first occurrence.
 use Rattle.std.proofs.lemmas.Bool.{cases_Bool}
-use Rattle.std.proofs.Common.{ℕ, ◌≡◌, ap, refl, sym, subst, ◌∙◌, inl, inr, Bool, true, false, ◌||◌, if◌then◌else◌, true≢false, List, [], ◌∷◌, ◌++◌, fold, Decides, append-nil, append_assoc}
+use Rattle.std.proofs.Common.{◌≡◌, ap, refl, sym, subst, ◌∙◌, inl, inr, Bool, true, false, ◌||◌, if◌then◌else◌, true≢false, List, [], ◌∷◌, ◌++◌, fold, Decides, append-nil, append_assoc}
 use Rattle.std.specs.List.{list_any, Contains, AllByRecursion}
 use Rattle.std.proofs.lemmas.List.Folds.{Any-from_list_any, list_any-from_Any}
 use Rattle.ls_spec.specs.Specifier.{Specifier}

@@ -9,3 +9,5 @@ pub mod BuiltinLemmas
 pub mod KeyLemmas
 pub mod DistinctLemmas
 pub mod FindingLemmas
+pub mod EntryLemmas
+pub mod BoundLemmas

@@ -14,7 +14,8 @@ pub AllByRecursion-weaker : {X : Type 0} (P Q : X → Type 0) → ((x : X) → P
 AllByRecursion-weaker P Q f [] h = tt
 AllByRecursion-weaker P Q f (x ∷ xs) h = (f x h.0, AllByRecursion-weaker P Q f xs h.1)
 
-AllByRecursion-at : {X : Type 0} (P : X → Type 0) (xs : List X) (x : X) (k : ℕ) → AllByRecursion P xs → k < length xs → get_or xs k x ≡ x → P x
+-- what holds of each element holds of the one at a place
+pub AllByRecursion-at : {X : Type 0} (P : X → Type 0) (xs : List X) (x : X) (k : ℕ) → AllByRecursion P xs → k < length xs → get_or xs k x ≡ x → P x
 AllByRecursion-at P [] x k h l e = absurd (omega arith)
 AllByRecursion-at P (y ∷ ys) x zero h l e = subst P e h.0
 AllByRecursion-at P (y ∷ ys) x (suc k) h l e = AllByRecursion-at P ys x k h.1 (omega arith) e

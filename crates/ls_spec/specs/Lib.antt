@@ -7,6 +7,7 @@ pub mod Inclusion
 pub mod Truth
 pub mod Regions
 pub mod Fits
+pub mod Entries
 pub mod Builtins
 pub mod Keys
 pub mod Distinct

@@ -1,12 +1,14 @@
 // Laws about the definitions in specs/. Each function is empty: all that it gives is its contract.
 
-ghost use Rattle.std.specs.Prelude.{ℕ, ◌≡◌, List};
+ghost use Rattle.std.specs.Prelude.{ℕ, ◌≡◌, ◌↔◌, Bool, not, List};
 ghost use Rattle.std.specs.Bool.{Decides};
-ghost use Rattle.ls_object.specs.Universe.{LispObject, Structures};
+ghost use Rattle.ls_object.specs.Universe.{LispObject, Structures, IsObject};
+ghost use Rattle.ls_object.specs.Table.{Holds};
 ghost use Rattle.ls_spec.specs.Specifier.{Specifier};
 ghost use Rattle.ls_spec.specs.Membership.{Belongs, UpgradesTo};
-ghost use Rattle.ls_spec.specs.Approximation.{low, high, HasNoPredicate};
+ghost use Rattle.ls_spec.specs.Approximation.{low, high, HasNoPredicate, has_free_predicate};
 ghost use Rattle.ls_spec.specs.Distinct.{same, distinct, AreDistinctOf};
+ghost use Rattle.ls_spec.specs.Entries.{code_specifier};
 ghost use Rattle.ls_spec.specs.Inclusion.{IsIncluded, IsWitness, IsUnsureWitness};
 
 /// The lower approximation of a specifier lies within it, and the specifier within its upper approximation.
@@ -14,6 +16,18 @@ ghost use Rattle.ls_spec.specs.Inclusion.{IsIncluded, IsWitness, IsUnsureWitness
 pub fn approximations()
     ensures lower { (structures : Structures) (s : Specifier) (o : LispObject) → Belongs structures (low s) o → Belongs structures s o }
     ensures upper { (structures : Structures) (s : Specifier) (o : LispObject) → Belongs structures s o → Belongs structures (high s) o }
+{}
+
+/// The test for predicates outside element types tells whether there is none. The body is empty, since this is a law
+/// about definitions.
+pub fn free_predicates()
+    ensures { (s : Specifier) → Decides (not (has_free_predicate s)) (HasNoPredicate s) }
+{}
+
+/// An object belongs to the type of an element code exactly where the entry at that place of the upgrading table holds
+/// it (15.1.2.1). The body is empty, since this is a law about definitions.
+pub fn types_of_codes()
+    ensures { (structures : Structures) (code : ℕ) (o : LispObject) → IsObject structures o → Belongs structures (code_specifier code) o ↔ Holds code o }
 {}
 
 /// Of inclusion, a witness against it, and a witness under some meaning of the predicates alone, at most one

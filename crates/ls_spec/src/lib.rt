@@ -4,7 +4,9 @@
 #![tactic(auto)]
 
 mod atom_list;
+mod bounds;
 mod builtin;
+mod codes;
 mod copy;
 mod fits;
 mod key;
@@ -18,8 +20,12 @@ mod tests;
 
 pub use atom_list::atoms;
 pub use builtin::of_builtin;
+pub use codes::of_code;
 pub use key::{key_of, key_of_name};
-pub use laws::{approximations, distinct_specifiers, one_right_answer, one_upgraded_code};
+pub use laws::{
+    approximations, distinct_specifiers, free_predicates, one_right_answer, one_upgraded_code,
+    types_of_codes,
+};
 pub use limits::{
     DIMENSION_LIMIT, LARGEST_DENOMINATOR, LARGEST_DEPTH, LARGEST_NUMERATOR, LARGEST_RANK,
 };
