@@ -1,0 +1,5 @@
+pub mod FallLemmas
+pub mod RowLemmas
+pub mod AmongLemmas
+pub mod WalkLemmas
+pub mod KeptLemmas

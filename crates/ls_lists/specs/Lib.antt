@@ -1,0 +1,4 @@
+pub mod Sides
+pub mod Candidates
+pub mod Walks
+pub mod Costs
