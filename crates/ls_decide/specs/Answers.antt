@@ -1,0 +1,30 @@
+-- The right answer to a query (SUBTYPEP), and what the cost of a decision is answered.
+use Rattle.std.specs.Prelude.{ℕ, ◌≡◌, ◌<◌, ◌≤◌, Option, Some, None}
+use Rattle.ls_object.specs.Universe.{Structures, IsPlain}
+use Rattle.ls_object.specs.Meaning.{lisp_object}
+use Rattle.ls_spec.specs.Specifier.{Specifier}
+use Rattle.ls_spec.specs.Inclusion.{IsIncluded, IsWitness, IsUnsureWitness}
+use Rattle.ls_lists.specs.Costs.{pair_cost}
+use Rattle.ls_decide.specs.declared.answer.Answer.{Answer}
+use Rattle.ls_decide.specs.declared.answer.Answer.TheVariants.{Yes, No, Unsure, TooLarge}
+
+-- TooLarge exactly where the cost of the pair is more than the budget. Else Yes exactly where the first type is
+-- included in the second, No with a witness exactly where there is one, and otherwise Unsure: no two of these hold of
+-- one pair.
+abbrev pub IsRight : Structures → Specifier → Specifier → ℕ → Answer → Type 0
+IsRight structures a b budget TooLarge = budget < pair_cost a b
+IsRight structures a b budget Yes = (pair_cost a b ≤ budget) × IsIncluded structures a b
+IsRight structures a b budget (No o) = (pair_cost a b ≤ budget) × IsWitness structures a b (lisp_object o)
+IsRight structures a b budget (Unsure o) = (pair_cost a b ≤ budget) × IsUnsureWitness structures a b (lisp_object o)
+
+-- the witness, where there is one, is plain
+abbrev pub IsPlainAnswer : Answer → Type 0
+IsPlainAnswer Yes = Unit {0}
+IsPlainAnswer TooLarge = Unit {0}
+IsPlainAnswer (No o) = IsPlain (lisp_object o)
+IsPlainAnswer (Unsure o) = IsPlain (lisp_object o)
+
+-- the number is the cost, or there is none, exactly where the cost is more than the budget
+abbrev pub TellsCost : ℕ → ℕ → Option ℕ → Type 0
+TellsCost budget cost None = budget < cost
+TellsCost budget cost (Some n) = (n ≡ cost) × (cost ≤ budget)
