@@ -1,0 +1,9 @@
+pub mod BitLemmas
+pub mod ColumnLemmas
+pub mod FormulaLemmas
+pub mod JoinLemmas
+pub mod KeyLemmas
+pub mod PackedLemmas
+pub mod PushLemmas
+pub mod RowLemmas
+pub mod TabulateLemmas
