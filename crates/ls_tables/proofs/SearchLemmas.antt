@@ -10,7 +10,7 @@ use Rattle.std.proofs.lemmas.Cmp.{nat_list_cmp_total}
 use Rattle.std.proofs.lemmas.List.Sorted.{searchable_from_sorted}
 use Rattle.ls_object.specs.ObjectText.{is_text}
 use Rattle.ls_tables.specs.Builtins.{look_up}
-use Rattle.ls_tables.specs.Search.{rows_of, ascends}
+use Rattle.ls_tables.specs.steps.Search.{rows_of, ascends}
 
 -- the order of texts by their bytes
 abbrev order : List ℕ → List ℕ → Ordering

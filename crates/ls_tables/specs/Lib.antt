@@ -1,3 +1,3 @@
 pub mod Builtins
-pub mod Search
 pub mod Sets
+pub mod steps

@@ -3,7 +3,7 @@
 ghost use Rattle.std.specs.Prelude.{◌≡◌, IsTrue};
 ghost use Rattle.std.specs.Str.{chars};
 ghost use Rattle.ls_tables.specs.Builtins.{look_up, builtin_of, BUILTIN_NAMES};
-ghost use Rattle.ls_tables.specs.Search.{ascends, rows_of};
+ghost use Rattle.ls_tables.specs.steps.Search.{ascends, rows_of};
 
 use crate::name::Builtin;
 use ls_object::Symbol;

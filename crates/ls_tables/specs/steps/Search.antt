@@ -1,4 +1,4 @@
--- What the binary search asks of its table. Nothing here must be believed: the contract of the look-up doesn't rest on it.
+-- What the binary search asks of its table.
 use Rattle.std.specs.Prelude.{ℕ, List, [], ◌∷◌, map, Bool, true, ◌&&◌}
 use Rattle.std.specs.Borrow.{Bor}
 use Rattle.std.specs.Ordering.{nat_cmp, is_lt}
