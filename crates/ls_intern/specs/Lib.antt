@@ -1,0 +1,4 @@
+pub mod Places
+pub mod NodeKeys
+pub mod Filling
+pub mod Codes
