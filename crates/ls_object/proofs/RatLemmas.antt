@@ -1,5 +1,5 @@
 -- A rational is determined by its numerator and its denominator.
-use Rattle.std.proofs.Common.{ℕ, ℤ, ◌≡◌, ◌<◌, ◌^◌}
+use Rattle.std.proofs.Common.{ℤ, ◌≡◌, ◌<◌, ◌^◌}
 use Rattle.std.specs.Prelude.{unsigned_abs}
 use Rattle.ls_object.specs.contracts.rat.Rat as contract
 use Rattle.ls_object.specs.declared.rat.Rat.{Rat}

@@ -1,8 +1,7 @@
 -- Which name is under which as a truth value, for structure types in the order of their inclusion.
-use Rattle.std.proofs.Common.{◌≡◌, [], ◌∷◌, ◌++◌, Option, Some, None, ◌⊎◌, inl, inr, Bool, true, false, true≢false, ◌||◌, refl, sym, subst, ap, ◌∙◌, if◌then◌else◌}
+use Rattle.std.proofs.Common.{◌≡◌, [], ◌∷◌, ◌++◌, Option, Some, None, ◌⊎◌, inl, inr, true, false, true≢false, ◌||◌, refl, sym, subst, ap, ◌∙◌, if◌then◌else◌}
 use Rattle.std.specs.Prelude.{reverse}
 use Rattle.std.specs.Bool.{Decides}
-use Rattle.std.specs.List.{Contains}
 use Rattle.std.proofs.lemmas.Bool.{cases_Bool}
 use Rattle.std.proofs.lemmas.Bool.Decides.{Decides-at, Decides-like, Decides-or}
 use Rattle.std.proofs.lemmas.List.{reverse-append, reverse-reverse}

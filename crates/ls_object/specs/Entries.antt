@@ -1,5 +1,5 @@
 -- The entries of the upgrading table, in order, each with what it holds.
-use Rattle.std.specs.Prelude.{ℤ, pos, negsuc, ◌-◌, ◌*◌, ◌^◌, List, [], ◌∷◌}
+use Rattle.std.specs.Prelude.{pos, negsuc, List, [], ◌∷◌}
 use Rattle.ls_object.specs.declared.kind.Kind.TheVariants.{SingleFloat, DoubleFloat}
 use Rattle.ls_object.specs.declared.table.Entry.{Entry}
 use Rattle.ls_object.specs.declared.table.Entry.TheVariants.{Nil, Bit, UnsignedByte, SignedByte, BaseChar, Character, OfKind, T}

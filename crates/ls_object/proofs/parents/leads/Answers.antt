@@ -1,4 +1,4 @@
-use Rattle.std.proofs.Common.{◌≡◌, ◌||◌, Option, Some, [], sym, subst, ap, ◌∙◌}
+use Rattle.std.proofs.Common.{◌≡◌, ◌||◌, [], sym, ap, ◌∙◌}
 use Rattle.std.proofs.lemmas.List.{nil_from_length}
 use Rattle.ls_object.specs.Inclusion.{under_in}
 use Rattle.ls_object.proofs.UnderLemmas.{under_in-passed, under_in-root, under_in-through, under_in-here}
