@@ -11,7 +11,8 @@ pub data Under (structures : Structures) : Symbol → Symbol → Type 0 where
   itself : {x : Symbol} → Under structures x x
   through : {x z y : Symbol} → Contains structures (x, Some z) → Under structures z y → Under structures x y
 
--- the structure type may stand behind these: its name is new, and the name that it includes, if it does, is one of theirs
+-- The structure type may stand behind these: its name is new, and the name that it includes, if it does, is one of
+-- theirs.
 abbrev pub MayFollow : Structures → Symbol × Option Symbol → Type 0
 MayFollow before (name, include) = (IsStructureOf before name → ⊥) × ForSome include (IsStructureOf before)
 
