@@ -2,7 +2,7 @@
 use Rattle.std.proofs.lemmas.Bool.{cases_Bool}
 use Rattle.std.proofs.Common.{◌≡◌, ap, refl, sym, subst, ◌∙◌, inl, inr, Bool, true, false, ◌||◌, if◌then◌else◌, true≢false, List, [], ◌∷◌, ◌++◌, fold, Decides, append-nil, append_assoc}
 use Rattle.std.specs.List.{list_any, Contains, AllByRecursion}
-use Rattle.std.proofs.lemmas.List.Folds.{Any-from_list_any, list_any-from_Any}
+use Rattle.std.proofs.lemmas.List.Folds.{Any-from_list_any, list_any-from_Any, list_any-append}
 use Rattle.ls_spec.specs.Specifier.{Specifier}
 use Rattle.ls_spec.specs.Keys.{key}
 use Rattle.ls_spec.specs.Distinct.{same, with_new, distinct, AreDistinctPast, at_end, again, first, AreDistinctOf}
@@ -25,12 +25,6 @@ Decides-among s list = (
   λ h. list_any-from_Any (same s) list (h.0, s, h.1, h.2, (Decides-same s s).1 refl),
 )
 
--- whether a specifier is among two lists, one behind the other
-among_both : (x : Specifier) (xs ys : List Specifier)
-    → list_any (same x) (xs ++ ys) ≡ (list_any (same x) xs || list_any (same x) ys)
-among_both x [] ys = refl
-among_both x (y ∷ xs) ys = let e = among_both x xs ys in elim (cases_Bool (same x y)) [ inl t ↦ cc | inr t ↦ cc ]
-
 -- one more specifier may stand at either end of a list
 or_swap : (a b : Bool) → (a || (b || false)) ≡ (b || a)
 or_swap true true = refl
@@ -51,7 +45,7 @@ distinct_past (s ∷ ss) found seen h = elim (cases_Bool (list_any (same s) foun
       again ((Decides-among s seen).0 (h s ∙ there)) rest.1.1,
     ),
   ))
-  | inr new ↦ (let rest = distinct_past ss (found ++ s ∷ []) (s ∷ seen) (λ x. ap (λ b. same x s || b) (h x) ∙ sym (among_both x found (s ∷ []) ∙ or_swap (list_any (same x) found) (same x s))) in (
+  | inr new ↦ (let rest = distinct_past ss (found ++ s ∷ []) (s ∷ seen) (λ x. ap (λ b. same x s || b) (h x) ∙ sym (list_any-append (same x) found (s ∷ []) ∙ or_swap (list_any (same x) found) (same x s))) in (
     s ∷ rest.0,
     (
       subst (λ b. fold with_new (if b then found else found ++ s ∷ []) ss ≡ found ++ (s ∷ rest.0)) (sym new) (rest.1.0 ∙ append_assoc found (s ∷ []) rest.0),

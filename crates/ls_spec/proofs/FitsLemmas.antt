@@ -4,7 +4,7 @@ use Rattle.std.specs.List.{AllByRecursion}
 use Rattle.ls_object.specs.Universe.{Structures}
 use Rattle.ls_spec.specs.declared.spec.Spec.{Spec}
 use Rattle.ls_spec.specs.Meaning.{specifier, specifiers}
-use Rattle.ls_spec.specs.Fits.{FitsIn, FitIn}
+use Rattle.ls_spec.specs.steps.Fitting.{FitsIn, FitIn}
 use Rattle.ls_spec.proofs.ListLemmas.{AllByRecursion-contains}
 
 -- the specifiers of a list fit where each of them does

@@ -9,6 +9,7 @@ use Rattle.ls_object.specs.declared.kind.Kind.{Kind}
 use Rattle.ls_object.specs.declared.kind.Kind.TheVariants.{SingleFloat, DoubleFloat, Complex, Function, CompiledFunction, HashTable, Readtable, Package, Pathname, LogicalPathname, Stream, RandomState, Condition, Restart, OtherStructure, Other}
 use Rattle.ls_object.specs.declared.symbol.Symbol.{Symbol}
 use Rattle.ls_object.specs.declared.table.TheConstants.{NIL_PLACE, BASE_CHAR_PLACE, CHARACTER_PLACE}
+use Rattle.ls_object.specs.Symbols.{same_symbol}
 use Rattle.ls_object.specs.Universe.{LispObject, node, LispShape, number, character, symbol, pair, array, structure, opaque, Structures}
 use Rattle.ls_object.specs.Inclusion.{Under}
 use Rattle.ls_spec.specs.declared.spec.Point.{Point}
@@ -24,8 +25,9 @@ use Rattle.ls_spec.specs.declared.spec.SymClass.TheVariants as symbol_class
 use Rattle.ls_spec.specs.declared.spec.DimPattern.{DimPattern}
 use Rattle.ls_spec.specs.declared.spec.DimPattern.TheVariants as dimensions
 use Rattle.ls_spec.specs.Specifier.{Specifier, all_objects, no_objects, and_of, or_of, not_of, eql_to, range_of, chars_of, symbols_of, kind_of, structure_under, any_structure, array_any, array_of, string_of, cons_of, satisfies, Specifiers, no_more, also}
-use Rattle.ls_spec.specs.Membership.{IsPoint, IsAbove, IsBelow, IsOfRangeKind, IsInRange, IsOfCharClass, IsCharIn, IsOfSymbolClass, IsSymbolIn, IsOfKind, IsStructureUnder, IsAnyStructure, MatchesPlace, MatchesPlaces, MatchesDimensions, IsSimpleIf, IsArrayWith, IsStringCode, IsPairOf, IsFirstHolding, Belongs, BelongsToAll, BelongsToSome, UpgradesTo}
-use Rattle.ls_spec.specs.Truth.{kind_number, same_kind, same_symbol, is_point, is_above, is_below, is_of_range_kind, is_in_range, is_of_char_class, is_char_in, is_of_symbol_class, is_symbol_in, is_of_kind, is_structure_under, is_any_structure, matches_place, matches_places, matches_dimensions, is_simple_if, is_array_with, is_string_code, is_pair_of, Learnt, holds, all_hold, some_holds, IsLearnt, AreLearnt, nothing_learnt, IsSelfContained, AreSelfContained, IsFlat}
+use Rattle.ls_spec.specs.Membership.{is_of_range_kind, IsPoint, IsAbove, IsBelow, IsOfRangeKind, IsInRange, IsOfCharClass, IsCharIn, IsOfSymbolClass, IsSymbolIn, IsOfKind, IsStructureUnder, IsAnyStructure, MatchesPlace, MatchesPlaces, MatchesDimensions, IsSimpleIf, IsArrayWith, IsStringCode, IsPairOf, IsFirstHolding, Belongs, BelongsToAll, BelongsToSome, UpgradesTo}
+use Rattle.ls_spec.specs.SelfContained.{IsSelfContained, AreSelfContained, IsFlat}
+use Rattle.ls_spec.specs.Truth.{kind_number, same_kind, is_point, is_above, is_below, is_in_range, is_of_char_class, is_char_in, is_of_symbol_class, is_symbol_in, is_of_kind, is_structure_under, is_any_structure, matches_place, matches_places, matches_dimensions, is_simple_if, is_array_with, is_string_code, is_pair_of, Learnt, holds, all_hold, some_holds, IsLearnt, AreLearnt, nothing_learnt}
 
 Decides-true : Decides true (Unit {0})
 Decides-true = (λ _. tt, λ _. refl)

@@ -38,7 +38,12 @@ bits = range_of Integer (Incl (integer (pos 0) (lit< tt))) (Incl (integer (pos 1
 
 -- (signed-byte 62), the integers from -2^61 to 2^61 - 1
 abbrev pub fixnums : Specifier
-fixnums = range_of Integer (Incl (integer (neg_ℤ (pos (2 ^ 61))) (lit< tt))) (Incl (integer (pos (2 ^ 61 - 1)) (lit< tt)))
+fixnums =
+    range_of Integer (Incl (integer (neg_ℤ (pos (2 ^ 61))) (lit< tt))) (Incl (integer (pos (2 ^ 61 - 1)) (lit< tt)))
+
+-- the characters that are no base characters
+abbrev pub extended_chars : Specifier
+extended_chars = first_without (chars_of char_class.Any) (chars_of char_class.Base)
 
 -- both float formats
 abbrev pub floats : Specifier
@@ -46,7 +51,9 @@ floats = either_of (kind_of kind.SingleFloat) (kind_of kind.DoubleFloat)
 
 -- rationals, floats and complex numbers
 abbrev pub numbers : Specifier
-numbers = or_of (also rationals (also (kind_of kind.SingleFloat) (also (kind_of kind.DoubleFloat) (also (kind_of kind.Complex) no_more))))
+numbers =
+    or_of (also rationals (also (kind_of kind.SingleFloat) (also (kind_of kind.DoubleFloat)
+    (also (kind_of kind.Complex) no_more))))
 
 -- (cons * *)
 abbrev pub conses : Specifier
@@ -80,64 +87,66 @@ vectors = array_any false (dimensions.Places (None ∷ []))
 abbrev pub vectors_of : Specifier → Bool → Specifier
 vectors_of e simple = array_of e simple (dimensions.Places (None ∷ []))
 
--- the names that mean one class of objects, one range or one kind
-abbrev pub class_named : Builtin → Specifier
-class_named name.T = all_objects
-class_named name.Nil = no_objects
-class_named name.Symbol = symbols_of symbol_class.Any
-class_named name.Keyword = symbols_of symbol_class.Keyword
-class_named name.Character = chars_of char_class.Any
-class_named name.BaseChar = chars_of char_class.Base
-class_named name.StandardChar = chars_of char_class.Standard
-class_named name.Bit = bits
-class_named name.Fixnum = fixnums
-class_named name.StructureObject = any_structure
-class_named name.HashTable = kind_of kind.HashTable
-class_named name.Readtable = kind_of kind.Readtable
-class_named name.Package = kind_of kind.Package
-class_named name.LogicalPathname = kind_of kind.LogicalPathname
-class_named name.Stream = kind_of kind.Stream
-class_named name.RandomState = kind_of kind.RandomState
-class_named name.Condition = kind_of kind.Condition
-class_named name.Restart = kind_of kind.Restart
-class_named name.CompiledFunction = kind_of kind.CompiledFunction
-class_named name.Integer = integers
-class_named name.Rational = rationals
-class_named name.SignedByte = integers
-class_named name.UnsignedByte = naturals
-class_named name.Array = arrays false
-class_named name.SimpleArray = arrays true
-class_named name.String = strings false
-class_named name.SimpleString = strings true
-class_named name.ShortFloat = kind_of kind.SingleFloat
-class_named name.SingleFloat = kind_of kind.SingleFloat
-class_named name.LongFloat = kind_of kind.DoubleFloat
-class_named name.DoubleFloat = kind_of kind.DoubleFloat
-class_named name.Complex = kind_of kind.Complex
--- no other name is one of these
-class_named _ = no_objects
-
--- what a name that stands alone means
+-- what a name that stands alone means; NIL for the heads of lists, which don't stand alone, and for `*`
 abbrev pub expansion : Builtin → Specifier
+expansion name.T = all_objects
+expansion name.Nil = no_objects
 expansion name.Atom = not_of conses
 expansion name.List = lists
 expansion name.Null = only_nil
 expansion name.Boolean = booleans
-expansion name.ExtendedChar = first_without (chars_of char_class.Any) (chars_of char_class.Base)
+expansion name.Symbol = symbols_of symbol_class.Any
+expansion name.Keyword = symbols_of symbol_class.Keyword
+expansion name.Character = chars_of char_class.Any
+expansion name.BaseChar = chars_of char_class.Base
+expansion name.StandardChar = chars_of char_class.Standard
+expansion name.ExtendedChar = extended_chars
+expansion name.Bit = bits
+expansion name.Fixnum = fixnums
 expansion name.Bignum = first_without integers fixnums
 expansion name.Ratio = first_without rationals integers
 expansion name.Number = numbers
 expansion name.Sequence = either_of lists vectors
+expansion name.StructureObject = any_structure
+expansion name.HashTable = kind_of kind.HashTable
+expansion name.Readtable = kind_of kind.Readtable
+expansion name.Package = kind_of kind.Package
 expansion name.Pathname = either_of (kind_of kind.Pathname) (kind_of kind.LogicalPathname)
+expansion name.LogicalPathname = kind_of kind.LogicalPathname
+expansion name.Stream = kind_of kind.Stream
+expansion name.RandomState = kind_of kind.RandomState
+expansion name.Condition = kind_of kind.Condition
+expansion name.Restart = kind_of kind.Restart
+expansion name.CompiledFunction = kind_of kind.CompiledFunction
+expansion name.Integer = integers
+expansion name.Rational = rationals
+expansion name.SignedByte = integers
+expansion name.UnsignedByte = naturals
 expansion name.Cons = conses
+expansion name.Array = arrays false
+expansion name.SimpleArray = arrays true
 expansion name.Vector = vectors
 expansion name.SimpleVector = vectors_of all_objects true
 expansion name.BitVector = vectors_of bits false
 expansion name.SimpleBitVector = vectors_of bits true
 expansion name.BaseString = vectors_of (chars_of char_class.Base) false
 expansion name.SimpleBaseString = vectors_of (chars_of char_class.Base) true
+expansion name.String = strings false
+expansion name.SimpleString = strings true
 expansion name.Float = floats
+expansion name.ShortFloat = kind_of kind.SingleFloat
+expansion name.SingleFloat = kind_of kind.SingleFloat
+expansion name.LongFloat = kind_of kind.DoubleFloat
+expansion name.DoubleFloat = kind_of kind.DoubleFloat
 expansion name.Real = either_of rationals floats
+expansion name.Complex = kind_of kind.Complex
 expansion name.Function = either_of (kind_of kind.Function) (kind_of kind.CompiledFunction)
--- all others mean one class
-expansion b = class_named b
+expansion name.And = no_objects
+expansion name.Or = no_objects
+expansion name.Not = no_objects
+expansion name.Member = no_objects
+expansion name.Eql = no_objects
+expansion name.Satisfies = no_objects
+expansion name.Mod = no_objects
+expansion name.Values = no_objects
+expansion name.Star = no_objects

@@ -3,18 +3,18 @@ use Rattle.std.specs.Prelude.{ℕ, ◌+◌, ◌≤◌, ◌<◌, max, Option, Som
 use Rattle.std.specs.List.{AllByRecursion}
 use Rattle.ls_object.specs.declared.rat.Rat.{Rat}
 use Rattle.ls_object.specs.Universe.{Structures, IsStructureOf}
-use Rattle.ls_spec.specs.declared.limits.TheConstants.{LARGEST_NUMERATOR, LARGEST_DENOMINATOR, LARGEST_RANK, DIMENSION_LIMIT, LARGEST_DEPTH}
 use Rattle.ls_spec.specs.declared.spec.Point.{Point}
 use Rattle.ls_spec.specs.declared.spec.Point.TheVariants as point
 use Rattle.ls_spec.specs.declared.spec.Bound.{Bound}
 use Rattle.ls_spec.specs.declared.spec.Bound.TheVariants.{Free, Incl, Excl}
 use Rattle.ls_spec.specs.declared.spec.DimPattern.{DimPattern}
 use Rattle.ls_spec.specs.declared.spec.DimPattern.TheVariants as dimensions
+use Rattle.ls_spec.specs.Limits.{largest_numerator, largest_denominator, largest_rank, dimension_limit, largest_depth}
 use Rattle.ls_spec.specs.Specifier.{Specifier, all_objects, no_objects, and_of, or_of, not_of, eql_to, range_of, structure_under, array_any, array_of, string_of, cons_of, Specifiers, no_more, also}
 
 -- a number within the limits
 abbrev pub IsSmall : Rat → Type 0
-IsSmall r = (unsigned_abs r.num ≤ LARGEST_NUMERATOR) × (r.den ≤ LARGEST_DENOMINATOR)
+IsSmall r = (unsigned_abs r.num ≤ largest_numerator) × (r.den ≤ largest_denominator)
 
 abbrev pub IsSmallBound : Bound → Type 0
 IsSmallBound Free = Unit {0}
@@ -29,11 +29,11 @@ IsSmallPoint (point.Sym s) = Unit {0}
 -- a dimension within the limit, or none asked for
 abbrev pub IsSmallPlace : Option ℕ → Type 0
 IsSmallPlace None = Unit {0}
-IsSmallPlace (Some n) = n < DIMENSION_LIMIT
+IsSmallPlace (Some n) = n < dimension_limit
 
 abbrev pub AreSmallDimensions : DimPattern → Type 0
 AreSmallDimensions dimensions.Any = Unit {0}
-AreSmallDimensions (dimensions.Places ps) = (length ps ≤ LARGEST_RANK) × AllByRecursion IsSmallPlace ps
+AreSmallDimensions (dimensions.Places ps) = (length ps ≤ largest_rank) × AllByRecursion IsSmallPlace ps
 
 -- every number in the specifier is within the limits, in its parts and element types too
 abbrev mutual
@@ -85,18 +85,11 @@ abbrev mutual
 
 -- within the limits, whatever structure names stand in it
 abbrev pub IsWithinLimits : Specifier → Type 0
-IsWithinLimits s = HasSmallNumbers s × (depth s ≤ LARGEST_DEPTH)
+IsWithinLimits s = HasSmallNumbers s × (depth s ≤ largest_depth)
 
 -- within the limits, with structure names of the list
 abbrev pub Fits : Structures → Specifier → Type 0
 Fits structures s = HasKnownNames structures s × IsWithinLimits s
-
--- the same, with a depth of at most the given one
-abbrev pub FitsIn : Structures → ℕ → Specifier → Type 0
-FitsIn structures room s = HasKnownNames structures s × HasSmallNumbers s × (depth s ≤ room)
-
-abbrev pub FitIn : Structures → ℕ → Specifiers → Type 0
-FitIn structures room ss = HaveKnownNames structures ss × HaveSmallNumbers ss × (greatest_depth ss ≤ room)
 
 -- none of T, NIL, AND, OR and NOT
 abbrev pub IsAtom : Specifier → Type 0

@@ -4,8 +4,10 @@ pub mod Membership
 pub mod Approximation
 pub mod Atoms
 pub mod Inclusion
+pub mod SelfContained
 pub mod Truth
 pub mod Regions
+pub mod Limits
 pub mod Fits
 pub mod Entries
 pub mod Builtins

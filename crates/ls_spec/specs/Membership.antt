@@ -1,5 +1,5 @@
 -- Which objects belong to a specifier (4.2.3 and the entries of the type specifiers).
-use Rattle.std.specs.Prelude.{◌≡◌, ℕ, ℤ, pos, ◌<◌, ◌≤◌, ◌*ℤ◌, ◌<ℤ◌, ◌≤ℤ◌, ◌⊎◌, List, [], ◌∷◌, Bool, true, false, Option, Some, None, codes}
+use Rattle.std.specs.Prelude.{◌≡◌, ℕ, ℤ, pos, ◌<◌, ◌≤◌, ◌*ℤ◌, ◌<ℤ◌, ◌≤ℤ◌, ◌⊎◌, List, [], ◌∷◌, ◌==◌, Bool, true, false, Option, Some, None, codes}
 use Rattle.std.specs.List.{Contains}
 use Rattle.ls_object.specs.declared.kind.Kind.{Kind}
 use Rattle.ls_object.specs.declared.kind.Kind.TheVariants.{OtherStructure}
@@ -46,6 +46,11 @@ IsBelow (Excl r) n d = (n *ℤ pos r.den) <ℤ (r.num *ℤ pos d)
 abbrev pub IsOfRangeKind : RangeKind → ℕ → Type 0
 IsOfRangeKind Integer d = d ≡ 1
 IsOfRangeKind Rational d = Unit {0}
+
+-- the same as a truth value, for what stands in bounds
+abbrev pub is_of_range_kind : RangeKind → ℕ → Bool
+is_of_range_kind Integer d = d == 1
+is_of_range_kind Rational d = true
 
 -- INTEGER and RATIONAL with bounds
 abbrev pub IsInRange : RangeKind → Bound → Bound → LispShape → Type 0
@@ -109,7 +114,8 @@ IsSimpleIf false simple = Unit {0}
 
 -- an array whose element code and dimensions are as asked
 abbrev pub IsArrayWith : (ℕ → Type 0) → Bool → (List ℕ → Type 0) → LispShape → Type 0
-IsArrayWith IsAskedCode asked AreAskedDimensions (array c simple dims) = IsAskedCode c × IsSimpleIf asked simple × AreAskedDimensions dims
+IsArrayWith IsAskedCode asked AreAskedDimensions (array c simple dims) =
+    IsAskedCode c × IsSimpleIf asked simple × AreAskedDimensions dims
 IsArrayWith IsAskedCode asked AreAskedDimensions _ = ⊥
 
 -- the element codes of strings: NIL, BASE-CHAR and CHARACTER
@@ -143,11 +149,14 @@ abbrev mutual
   Belongs structures (kind_of k) (node marks shape) = IsOfKind k shape
   Belongs structures (structure_under y) (node marks shape) = IsStructureUnder structures y shape
   Belongs structures any_structure (node marks shape) = IsAnyStructure shape
-  Belongs structures (array_any simple dims) (node marks shape) = IsArrayWith (λ c. Unit {0}) simple (MatchesDimensions dims) shape
+  Belongs structures (array_any simple dims) (node marks shape) =
+      IsArrayWith (λ c. Unit {0}) simple (MatchesDimensions dims) shape
   Belongs structures (array_of e simple dims) (node marks shape) =
       IsArrayWith (IsFirstHolding structures (λ x. Belongs structures e x)) simple (MatchesDimensions dims) shape
-  Belongs structures (string_of simple dim) (node marks shape) = IsArrayWith IsStringCode simple (MatchesPlaces (dim ∷ [])) shape
-  Belongs structures (cons_of a b) (node marks shape) = IsPairOf (λ x. Belongs structures a x) (λ x. Belongs structures b x) shape
+  Belongs structures (string_of simple dim) (node marks shape) =
+      IsArrayWith IsStringCode simple (MatchesPlaces (dim ∷ [])) shape
+  Belongs structures (cons_of a b) (node marks shape) =
+      IsPairOf (λ x. Belongs structures a x) (λ x. Belongs structures b x) shape
   Belongs structures (satisfies p) (node marks shape) = Contains marks p
 
   pub BelongsToAll : Structures → Specifiers → LispObject → Type 0

@@ -9,12 +9,12 @@ use Rattle.ls_object.specs.declared.kind.Kind.{Kind}
 use Rattle.ls_object.specs.declared.kind.Kind.TheVariants.{SingleFloat, DoubleFloat, Complex, Function, CompiledFunction, HashTable, Readtable, Package, Pathname, LogicalPathname, Stream, RandomState, Condition, Restart, OtherStructure, Other}
 use Rattle.ls_object.specs.declared.symbol.Symbol.{Symbol}
 use Rattle.ls_object.specs.declared.table.TheConstants.{TABLE_LEN, NIL_PLACE, BASE_CHAR_PLACE, CHARACTER_PLACE}
+use Rattle.ls_object.specs.Symbols.{same_symbol}
 use Rattle.ls_object.specs.Universe.{LispObject, node, LispShape, number, character, symbol, pair, array, structure, opaque, Structures}
 use Rattle.ls_object.specs.Inclusion.{Under}
 use Rattle.ls_spec.specs.declared.spec.Point.{Point}
 use Rattle.ls_spec.specs.declared.spec.Point.TheVariants as point
 use Rattle.ls_spec.specs.declared.spec.RangeKind.{RangeKind}
-use Rattle.ls_spec.specs.declared.spec.RangeKind.TheVariants.{Integer, Rational}
 use Rattle.ls_spec.specs.declared.spec.Bound.{Bound}
 use Rattle.ls_spec.specs.declared.spec.Bound.TheVariants.{Free, Incl, Excl}
 use Rattle.ls_spec.specs.declared.spec.CharClass.{CharClass}
@@ -24,7 +24,7 @@ use Rattle.ls_spec.specs.declared.spec.SymClass.TheVariants as symbol_class
 use Rattle.ls_spec.specs.declared.spec.DimPattern.{DimPattern}
 use Rattle.ls_spec.specs.declared.spec.DimPattern.TheVariants as dimensions
 use Rattle.ls_spec.specs.Specifier.{Specifier, all_objects, no_objects, and_of, or_of, not_of, eql_to, range_of, chars_of, symbols_of, kind_of, structure_under, any_structure, array_any, array_of, string_of, cons_of, satisfies, Specifiers, no_more, also}
-use Rattle.ls_spec.specs.Membership.{UpgradesTo}
+use Rattle.ls_spec.specs.Membership.{is_of_range_kind, UpgradesTo}
 
 -- the kinds in order
 abbrev pub kind_number : Kind → ℕ
@@ -48,9 +48,6 @@ kind_number Other = 15
 abbrev pub same_kind : Kind → Kind → Bool
 same_kind j k = kind_number j == kind_number k
 
-abbrev pub same_symbol : Symbol → Symbol → Bool
-same_symbol s t = pointwise nat_eq s.package t.package && pointwise nat_eq s.name t.name
-
 abbrev pub is_point : Point → LispShape → Bool
 is_point (point.Number r) (number n d) = int_eq n r.num && (d == r.den)
 is_point (point.Char c) (character k) = k == c
@@ -66,10 +63,6 @@ abbrev pub is_below : Bound → ℤ → ℕ → Bool
 is_below Free n d = true
 is_below (Incl r) n d = int_le (n *ℤ pos r.den) (r.num *ℤ pos d)
 is_below (Excl r) n d = int_lt (n *ℤ pos r.den) (r.num *ℤ pos d)
-
-abbrev pub is_of_range_kind : RangeKind → ℕ → Bool
-is_of_range_kind Integer d = d == 1
-is_of_range_kind Rational d = true
 
 abbrev pub is_in_range : RangeKind → Bound → Bound → LispShape → Bool
 is_in_range k lo hi (number n d) = is_of_range_kind k d && (is_above lo n d && is_below hi n d)
@@ -123,7 +116,8 @@ is_simple_if true simple = simple
 is_simple_if false simple = true
 
 abbrev pub is_array_with : (ℕ → Bool) → Bool → (List ℕ → Bool) → LispShape → Bool
-is_array_with is_asked_code asked are_asked_dimensions (array c simple dims) = is_asked_code c && (is_simple_if asked simple && are_asked_dimensions dims)
+is_array_with is_asked_code asked are_asked_dimensions (array c simple dims) =
+    is_asked_code c && (is_simple_if asked simple && are_asked_dimensions dims)
 is_array_with is_asked_code asked are_asked_dimensions _ = false
 
 abbrev pub is_string_code : ℕ → Bool
@@ -155,9 +149,12 @@ abbrev mutual
   holds learnt (kind_of k) (node marks shape) = is_of_kind k shape
   holds learnt (structure_under y) (node marks shape) = is_structure_under learnt.under y shape
   holds learnt any_structure (node marks shape) = is_any_structure shape
-  holds learnt (array_any simple dims) (node marks shape) = is_array_with (λ c. true) simple (matches_dimensions dims) shape
-  holds learnt (array_of e simple dims) (node marks shape) = is_array_with (λ c. c == learnt.code_of e) simple (matches_dimensions dims) shape
-  holds learnt (string_of simple dim) (node marks shape) = is_array_with is_string_code simple (matches_places (dim ∷ [])) shape
+  holds learnt (array_any simple dims) (node marks shape) =
+      is_array_with (λ c. true) simple (matches_dimensions dims) shape
+  holds learnt (array_of e simple dims) (node marks shape) =
+      is_array_with (λ c. c == learnt.code_of e) simple (matches_dimensions dims) shape
+  holds learnt (string_of simple dim) (node marks shape) =
+      is_array_with is_string_code simple (matches_places (dim ∷ [])) shape
   holds learnt (cons_of a b) (node marks shape) = is_pair_of (λ x. holds learnt a x) (λ x. holds learnt b x) shape
   holds learnt (satisfies p) (node marks shape) = list_any (same_symbol p) marks
 
@@ -187,26 +184,3 @@ abbrev mutual
 -- nothing is known of element specifiers and structure names
 abbrev pub nothing_learnt : Learnt
 nothing_learnt = record { code_of = λ e. TABLE_LEN; under = λ x y. false }
-
--- membership in the specifier asks for no structure list and no upgraded code
-abbrev mutual
-  pub IsSelfContained : Specifier → Type 0
-  IsSelfContained (and_of ss) = AreSelfContained ss
-  IsSelfContained (or_of ss) = AreSelfContained ss
-  IsSelfContained (not_of s) = IsSelfContained s
-  IsSelfContained (cons_of a b) = IsSelfContained a × IsSelfContained b
-  IsSelfContained (array_of e simple dims) = ⊥
-  IsSelfContained (structure_under y) = ⊥
-  IsSelfContained _ = Unit {0}
-
-  pub AreSelfContained : Specifiers → Type 0
-  AreSelfContained no_more = Unit {0}
-  AreSelfContained (also s ss) = IsSelfContained s × AreSelfContained ss
-
--- The shape of a number, a character, a symbol or an opaque object. Whether it belongs to a specifier depends
--- neither on the structure types of the file nor on element types.
-abbrev pub IsFlat : LispShape → Type 0
-IsFlat (pair car cdr) = ⊥
-IsFlat (array code simple dims) = ⊥
-IsFlat (structure s) = ⊥
-IsFlat _ = Unit {0}

@@ -2,3 +2,4 @@
 -- rests on these definitions.
 pub mod Finding
 pub mod Widths
+pub mod Fitting

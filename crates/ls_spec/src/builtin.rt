@@ -96,6 +96,16 @@ fn first_without(alloc: Global, a: Spec, b: Spec) -> Result<Spec, AllocError>
     Ok(Spec::And(both(alloc, a, other)?))
 }
 
+fn extended_chars(alloc: Global) -> Result<Spec, AllocError>
+    ensures { IfOk result (λ s. specifier s ≡ spec.extended_chars) }
+{
+    first_without(
+        alloc,
+        Spec::Chars(CharClass::Any),
+        Spec::Chars(CharClass::Base),
+    )
+}
+
 fn kinds(alloc: Global, a: Kind, b: Kind) -> Result<Spec, AllocError>
     ensures { IfOk result (λ s. specifier s ≡ spec.either_of (kind_of a) (kind_of b)) }
 {
@@ -189,74 +199,62 @@ fn strings(simple: bool) -> Spec
     Spec::StringOf { simple, dim: None }
 }
 
-/// What a name means that means one class of objects; NIL for any other name.
-fn class_named(name: Builtin) -> Spec
-    ensures { specifier result ≡ spec.class_named name }
-{
-    match name {
-        Builtin::T => Spec::All,
-        Builtin::Symbol => Spec::Symbols(SymClass::Any),
-        Builtin::Keyword => Spec::Symbols(SymClass::Keyword),
-        Builtin::Character => Spec::Chars(CharClass::Any),
-        Builtin::BaseChar => Spec::Chars(CharClass::Base),
-        Builtin::StandardChar => Spec::Chars(CharClass::Standard),
-        Builtin::Bit => bits(),
-        Builtin::Fixnum => fixnums(),
-        Builtin::StructureObject => Spec::StructAny,
-        Builtin::HashTable => Spec::Kind(Kind::HashTable),
-        Builtin::Readtable => Spec::Kind(Kind::Readtable),
-        Builtin::Package => Spec::Kind(Kind::Package),
-        Builtin::LogicalPathname => Spec::Kind(Kind::LogicalPathname),
-        Builtin::Stream => Spec::Kind(Kind::Stream),
-        Builtin::RandomState => Spec::Kind(Kind::RandomState),
-        Builtin::Condition => Spec::Kind(Kind::Condition),
-        Builtin::Restart => Spec::Kind(Kind::Restart),
-        Builtin::CompiledFunction => Spec::Kind(Kind::CompiledFunction),
-        Builtin::Integer | Builtin::SignedByte => integers(),
-        Builtin::UnsignedByte => naturals(),
-        Builtin::Rational => rationals(),
-        Builtin::Array => arrays(false),
-        Builtin::SimpleArray => arrays(true),
-        Builtin::String => strings(false),
-        Builtin::SimpleString => strings(true),
-        Builtin::ShortFloat | Builtin::SingleFloat => Spec::Kind(Kind::SingleFloat),
-        Builtin::LongFloat | Builtin::DoubleFloat => Spec::Kind(Kind::DoubleFloat),
-        Builtin::Complex => Spec::Kind(Kind::Complex),
-        _ => Spec::Nothing,
-    }
-}
-
 /// What a built-in name means that stands alone: what the list of the name means with `*` for each argument (4.2.3).
 pub fn of_builtin(alloc: Global, name: Builtin) -> Result<Spec, AllocError>
     requires { IsTrue (stands_alone name) }
     ensures { IfOk result (λ s. specifier s ≡ spec.expansion name) }
 {
     match name {
+        Builtin::T => Ok(Spec::All),
         Builtin::Atom => not_of(alloc, conses(alloc)?),
         Builtin::List => lists(alloc),
         Builtin::Null => only_nil(alloc),
         Builtin::Boolean => booleans(alloc),
-        Builtin::ExtendedChar => first_without(
-            alloc,
-            Spec::Chars(CharClass::Any),
-            Spec::Chars(CharClass::Base),
-        ),
+        Builtin::Symbol => Ok(Spec::Symbols(SymClass::Any)),
+        Builtin::Keyword => Ok(Spec::Symbols(SymClass::Keyword)),
+        Builtin::Character => Ok(Spec::Chars(CharClass::Any)),
+        Builtin::BaseChar => Ok(Spec::Chars(CharClass::Base)),
+        Builtin::StandardChar => Ok(Spec::Chars(CharClass::Standard)),
+        Builtin::ExtendedChar => extended_chars(alloc),
+        Builtin::Bit => Ok(bits()),
+        Builtin::Fixnum => Ok(fixnums()),
         Builtin::Bignum => first_without(alloc, integers(), fixnums()),
         Builtin::Ratio => first_without(alloc, rationals(), integers()),
         Builtin::Number => numbers(alloc),
         Builtin::Sequence => either_of(alloc, lists(alloc)?, vectors(alloc)?),
+        Builtin::StructureObject => Ok(Spec::StructAny),
+        Builtin::HashTable => Ok(Spec::Kind(Kind::HashTable)),
+        Builtin::Readtable => Ok(Spec::Kind(Kind::Readtable)),
+        Builtin::Package => Ok(Spec::Kind(Kind::Package)),
         Builtin::Pathname => kinds(alloc, Kind::Pathname, Kind::LogicalPathname),
+        Builtin::LogicalPathname => Ok(Spec::Kind(Kind::LogicalPathname)),
+        Builtin::Stream => Ok(Spec::Kind(Kind::Stream)),
+        Builtin::RandomState => Ok(Spec::Kind(Kind::RandomState)),
+        Builtin::Condition => Ok(Spec::Kind(Kind::Condition)),
+        Builtin::Restart => Ok(Spec::Kind(Kind::Restart)),
+        Builtin::CompiledFunction => Ok(Spec::Kind(Kind::CompiledFunction)),
+        Builtin::Integer | Builtin::SignedByte => Ok(integers()),
+        Builtin::Rational => Ok(rationals()),
+        Builtin::UnsignedByte => Ok(naturals()),
         Builtin::Cons => conses(alloc),
+        Builtin::Array => Ok(arrays(false)),
+        Builtin::SimpleArray => Ok(arrays(true)),
         Builtin::Vector => vectors(alloc),
         Builtin::SimpleVector => vectors_of(alloc, Spec::All, true),
         Builtin::BitVector => vectors_of(alloc, bits(), false),
         Builtin::SimpleBitVector => vectors_of(alloc, bits(), true),
         Builtin::BaseString => vectors_of(alloc, Spec::Chars(CharClass::Base), false),
         Builtin::SimpleBaseString => vectors_of(alloc, Spec::Chars(CharClass::Base), true),
+        Builtin::String => Ok(strings(false)),
+        Builtin::SimpleString => Ok(strings(true)),
         Builtin::Float => floats(alloc),
+        Builtin::ShortFloat | Builtin::SingleFloat => Ok(Spec::Kind(Kind::SingleFloat)),
+        Builtin::LongFloat | Builtin::DoubleFloat => Ok(Spec::Kind(Kind::DoubleFloat)),
         Builtin::Real => either_of(alloc, rationals(), floats(alloc)?),
+        Builtin::Complex => Ok(Spec::Kind(Kind::Complex)),
         Builtin::Function => kinds(alloc, Kind::Function, Kind::CompiledFunction),
-        _ => Ok(class_named(name)),
+        // NIL, and the names that the condition bars.
+        _ => Ok(Spec::Nothing),
     }
 }
 

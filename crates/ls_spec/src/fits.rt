@@ -1,7 +1,8 @@
 ghost use Rattle.std.specs.Bool.{Decides};
 ghost use Rattle.std.specs.List.{AllByRecursion};
 ghost use Rattle.ls_spec.specs.Meaning.{specifier, specifiers};
-ghost use Rattle.ls_spec.specs.Fits.{Fits, FitsIn, FitIn, IsSmall, IsSmallBound, IsSmallPoint, IsSmallPlace, AreSmallDimensions};
+ghost use Rattle.ls_spec.specs.steps.Fitting.{FitsIn, FitIn};
+ghost use Rattle.ls_spec.specs.Fits.{Fits, IsSmall, IsSmallBound, IsSmallPoint, IsSmallPlace, AreSmallDimensions};
 
 use crate::limits::{
     DIMENSION_LIMIT, LARGEST_DENOMINATOR, LARGEST_DEPTH, LARGEST_NUMERATOR, LARGEST_RANK,

@@ -4,12 +4,27 @@ ghost use Rattle.std.specs.Prelude.{ℕ, ◌≡◌, ◌↔◌, Bool, not, List};
 ghost use Rattle.std.specs.Bool.{Decides};
 ghost use Rattle.ls_object.specs.Universe.{LispObject, Structures, IsObject};
 ghost use Rattle.ls_object.specs.Table.{Holds};
+ghost use Rattle.ls_spec.specs.Limits as limit;
 ghost use Rattle.ls_spec.specs.Specifier.{Specifier};
 ghost use Rattle.ls_spec.specs.Membership.{Belongs, UpgradesTo};
 ghost use Rattle.ls_spec.specs.Approximation.{low, high, HasNoPredicate, has_free_predicate};
 ghost use Rattle.ls_spec.specs.Distinct.{same, distinct, AreDistinctOf};
 ghost use Rattle.ls_spec.specs.Entries.{code_specifier};
 ghost use Rattle.ls_spec.specs.Inclusion.{IsIncluded, IsWitness, IsUnsureWitness};
+
+use crate::limits::{
+    DIMENSION_LIMIT, LARGEST_DENOMINATOR, LARGEST_DEPTH, LARGEST_NUMERATOR, LARGEST_RANK,
+};
+
+/// The limits of specifiers: numerators up to 2^64, denominators up to 2^60, up to 255 dimensions, each below 2^62, and
+/// 1,024 levels. The body is empty, since this is a law about constants.
+pub fn limits_of_specifiers()
+    ensures numerators { LARGEST_NUMERATOR ≡ limit.largest_numerator }
+    ensures denominators { LARGEST_DENOMINATOR ≡ limit.largest_denominator }
+    ensures ranks { LARGEST_RANK ≡ limit.largest_rank }
+    ensures dimensions { DIMENSION_LIMIT ≡ limit.dimension_limit }
+    ensures depths { LARGEST_DEPTH ≡ limit.largest_depth }
+{}
 
 /// The lower approximation of a specifier lies within it, and the specifier within its upper approximation.
 /// The body is empty, since this is a law about definitions.

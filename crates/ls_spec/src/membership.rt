@@ -3,12 +3,14 @@
 ghost use Rattle.std.specs.Prelude.{◌≡◌, [], ◌∷◌, true};
 ghost use Rattle.std.specs.Bool.{Decides};
 ghost use Rattle.std.specs.List.{list_any};
+ghost use Rattle.ls_object.specs.Symbols.{same_symbol};
 ghost use Rattle.ls_object.specs.Universe.{Structures, node, array};
 ghost use Rattle.ls_object.specs.Meaning.{lisp_object, lisp_shape};
 ghost use Rattle.ls_spec.specs.Meaning.{specifier, specifiers};
 ghost use Rattle.ls_spec.specs.Membership.{Belongs};
 ghost use Rattle.ls_spec.specs.Truth as truth;
-ghost use Rattle.ls_spec.specs.Truth.{nothing_learnt, IsSelfContained, IsFlat};
+ghost use Rattle.ls_spec.specs.SelfContained.{IsSelfContained, IsFlat};
+ghost use Rattle.ls_spec.specs.Truth.{nothing_learnt};
 
 use crate::spec::{Bound, CharClass, DimPattern, Point, RangeKind, Spec, SymClass};
 use ls_object::{
@@ -21,19 +23,13 @@ pub(crate) fn kind_number(kind: Kind) -> u8
     kind as u8
 }
 
-fn is_same_symbol(a: &Symbol, b: &Symbol) -> bool
-    ensures { result ≡ truth.same_symbol a.now b.now }
-{
-    a.package == b.package && a.name == b.name
-}
-
 fn is_point(point: &Point, shape: &Shape) -> bool
     ensures { result ≡ truth.is_point point.now (lisp_shape shape.now) }
 {
     match (point, shape) {
         (Point::Number(r), Shape::Number(n)) => n.num == r.num && n.den == r.den,
         (Point::Char(c), Shape::Char(d)) => d == c,
-        (Point::Sym(s), Shape::Sym(t)) => is_same_symbol(t, s),
+        (Point::Sym(s), Shape::Sym(t)) => t.is(s),
         _ => false,
     }
 }
@@ -193,9 +189,9 @@ fn is_string(simple: bool, dim: Option<u64>, shape: &Shape) -> bool
 }
 
 fn has_mark(predicate: &Symbol, marks: &[Symbol]) -> bool
-    ensures { result ≡ list_any (truth.same_symbol predicate.now) marks.now }
+    ensures { result ≡ list_any (same_symbol predicate.now) marks.now }
 {
-    marks.iter().any(|mark| is_same_symbol(predicate, mark))
+    marks.iter().any(|mark| predicate.is(mark))
 }
 
 /// Whether the object with these marks at its top node and this shape belongs to the specifier, where no

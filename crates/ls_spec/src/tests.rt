@@ -3,7 +3,7 @@
 
 ghost use Rattle.std.specs.Prelude.{IfOk};
 ghost use Rattle.ls_spec.specs.Meaning.{specifier};
-ghost use Rattle.ls_spec.specs.Truth.{IsSelfContained};
+ghost use Rattle.ls_spec.specs.SelfContained.{IsSelfContained};
 
 use crate::{Bound, CharClass, Point, RangeKind, Spec, SymClass, atoms, belongs};
 use ls_object::{Boxed, Items, Object, Parents, Rat, Shape, Symbol, Text};

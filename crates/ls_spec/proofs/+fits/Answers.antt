@@ -1,6 +1,6 @@
 use Rattle.std.proofs.Common.{refl, true≢false, sym, ◌∙◌}
 use Rattle.ls_spec.specs.Meaning.{specifier}
-use Rattle.ls_spec.specs.Fits.{FitsIn}
+use Rattle.ls_spec.specs.steps.Fitting.{FitsIn}
 use Rattle.ls_spec.proofs.ListLemmas.{AllByRecursion-more, AllByRecursion-whole}
 use Rattle.ls_spec.proofs.FitsLemmas.{FitIn-each, FitIn-not}
 use Rattle.ls_spec.proofs.+fits.Goals as goal

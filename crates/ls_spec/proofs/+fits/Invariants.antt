@@ -1,7 +1,7 @@
 use Rattle.std.proofs.Common.{take}
 use Rattle.std.specs.List.{AllByRecursion}
 use Rattle.ls_spec.specs.Meaning.{specifier}
-use Rattle.ls_spec.specs.Fits.{FitsIn}
+use Rattle.ls_spec.specs.steps.Fitting.{FitsIn}
 use Rattle.ls_spec.proofs.+fits.Given as goal
 
 abbrev pub invariant-fits::all_fit_in-loop-spec : goal.invariant-fits::all_fit_in-loop-spec
