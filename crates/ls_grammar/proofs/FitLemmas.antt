@@ -22,7 +22,7 @@ use Rattle.ls_spec.specs.declared.spec.Bound.TheVariants.{Free}
 use Rattle.ls_spec.specs.Specifier.{Specifier, not_of}
 use Rattle.ls_spec.specs.Meaning.{specifiers_of}
 use Rattle.ls_spec.specs.Builtins.{expansion}
-use Rattle.ls_spec.specs.Truth.{is_of_range_kind}
+use Rattle.ls_spec.specs.Membership.{is_of_range_kind}
 use Rattle.ls_spec.specs.Fits.{IsSmall, IsSmallBound, HasSmallNumbers, HaveSmallNumbers, HasKnownNames, HaveKnownNames, depth, greatest_depth, Fits}
 use Rattle.ls_env.specs.Environments.{Environment}
 use Rattle.ls_grammar.specs.declared.refusal.Refusal.{Refusal}

@@ -18,7 +18,7 @@ use Rattle.ls_spec.specs.declared.limits.TheConstants.{LARGEST_NUMERATOR, LARGES
 use Rattle.ls_spec.specs.declared.spec.RangeKind.{RangeKind}
 use Rattle.ls_spec.specs.declared.spec.Bound.{Bound}
 use Rattle.ls_spec.specs.declared.spec.Bound.TheVariants.{Free, Incl, Excl}
-use Rattle.ls_spec.specs.Truth.{is_of_range_kind}
+use Rattle.ls_spec.specs.Membership.{is_of_range_kind}
 use Rattle.ls_grammar.specs.declared.refusal.RefusalKind.{RefusalKind}
 use Rattle.ls_grammar.specs.declared.refusal.RefusalKind.TheVariants as kind
 use Rattle.ls_grammar.specs.declared.refusal.Refusal.{Refusal}

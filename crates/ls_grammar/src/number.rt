@@ -2,7 +2,7 @@
 
 ghost use Rattle.std.specs.Prelude.{◌≡◌, ◌^◌, ◌≤◌, ◌<◌, pos, unsigned_abs, IfOk, IfSome, IsTrue};
 ghost use Rattle.ls_reader.specs.declared.datum.Form.{out-Form};
-ghost use Rattle.ls_spec.specs.Truth.{is_of_range_kind};
+ghost use Rattle.ls_spec.specs.Membership.{is_of_range_kind};
 ghost use Rattle.ls_grammar.specs.Numbers as spec;
 
 use crate::refusal::{Refusal, RefusalKind};

@@ -1,11 +1,37 @@
 -- From values to the objects that were answered for them.
-use Rattle.std.proofs.Common.{zero, suc, ◌≡◌, ap, refl, sym, subst, inl, inr, List, [], ◌∷◌, map, length, arith}
-use Rattle.std.specs.List.{AllByRecursion, Contains}
+use Rattle.std.proofs.Common.{zero, suc, ◌≡◌, ◌≤◌, ap, refl, sym, subst, inl, inr, Bool, if◌then◌else◌, List, [], ◌∷◌, map, length, Option, None, Some, length-append, arith}
+use Rattle.std.specs.List.{AllByRecursion, Contains, flat_map}
+use Rattle.std.specs.Option.{option_to_list}
 use Rattle.ls_object.specs.declared.object.Object.{Object}
 use Rattle.ls_object.specs.Universe.{LispObject}
 use Rattle.ls_object.specs.Meaning.{lisp_object}
-use Rattle.ls_points.specs.Some.{SomeOf}
+use Rattle.ls_spec.specs.declared.spec.Spec.{Spec}
+use Rattle.ls_spec.specs.Meaning.{specifier}
+use Rattle.ls_spec.specs.Specifier.{Specifier}
+use Rattle.ls_points.specs.Classes.{count_atoms}
+use Rattle.ls_points.specs.steps.Some.{SomeOf}
 
+-- what holds of every value holds of those in a list
+pub all_of : {V : Type 0} (P : V → Type 0) → ((v : V) → P v) → (vs : List V) → AllByRecursion P vs
+all_of P h [] = tt
+all_of P h (v ∷ vs) = (h v, all_of P h vs)
+
+-- an optional value is one value at most
+pub at_most_one : {V : Type 0} (answer : Option V) → length (option_to_list answer) ≤ 1
+at_most_one None = omega arith
+at_most_one (Some v) = omega arith
+
+-- where an atom names one value at most, and none if it fails the test, few are named
+pub few_named : {V : Type 0} (named : Specifier → List V) (test : Specifier → Bool) → ((s : Specifier) → length (named s) ≤ (if test s then 1 else 0))
+    → (atoms : List Spec) → length (flat_map (λ a. named (specifier a)) atoms) ≤ count_atoms test (map specifier atoms)
+few_named named test one [] = omega arith
+few_named named test one (a ∷ more) =
+    let e = length-append (named (specifier a)) (flat_map (λ a. named (specifier a)) more) in
+    let f = one (specifier a) in
+    let g = few_named named test one more in
+    omega arith
+
+-- what a list contains is in a longer one
 contains_more : {X : Type 0} (x y : X) (xs : List X) → Contains xs x → Contains (y ∷ xs) x
 contains_more x y xs (k, l, e) = (suc k, omega arith, e)
 

@@ -6,6 +6,7 @@ use Rattle.std.specs.List.{AllByRecursion, list_any}
 use Rattle.std.specs.Option.{option_to_list}
 use Rattle.std.proofs.lemmas.Bool.Decides.{eqb_tells, nat_tests}
 use Rattle.std.proofs.lemmas.List.{map-append}
+use Rattle.std.proofs.lemmas.List.Folds.{list_any-append}
 use Rattle.std.proofs.Math.Utf8.{scalar_cases}
 use Rattle.indexmap.specs.IndexSet.{insert_all}
 use Rattle.ls_object.specs.declared.object.Object.{Object}
@@ -23,15 +24,12 @@ use Rattle.ls_spec.specs.Regions.{AreRepresentatives, IsPlainOf}
 use Rattle.ls_spec.specs.Truth.{holds, nothing_learnt, is_of_char_class}
 use Rattle.ls_spec.proofs.ListLemmas.{AllByRecursion-append, AllByRecursion-weaker}
 use Rattle.ls_points.specs.Classes.{IsCharacter, IsFitAtom, is_character_point, count_atoms}
-use Rattle.ls_points.specs.Characters.{named_characters, with_characters, is_just_in, IsUnnamed, AreNamedBetween}
-use Rattle.ls_points.specs.Some.{SomeOf}
-use Rattle.ls_points.proofs.FlatLemmas.{SomeOf-front, SomeOf-back, AreAlike, AreAlike-itself, represented, all_answered, count_answered}
+use Rattle.ls_points.specs.steps.Characters.{named_characters, with_characters, is_just_in, IsUnnamed, AreNamedBetween}
+use Rattle.ls_points.specs.steps.Some.{SomeOf}
+use Rattle.ls_points.proofs.AnsweredLemmas.{all_of, at_most_one, each_answered, as_many_answered}
+use Rattle.ls_points.proofs.FlatLemmas.{SomeOf-front, SomeOf-back, object_of, AreAlike, AreAlike-itself, represented}
 
 -- ---- the named characters
-
-any_append : (q : ℕ) (xs ys : List ℕ) → list_any (nat_eq q) (xs ++ ys) ≡ (list_any (nat_eq q) xs || list_any (nat_eq q) ys)
-any_append q [] ys = refl
-any_append q (x ∷ xs) ys = let e = any_append q xs ys in elim (cases_Bool (nat_eq q x)) [ inl t ↦ cc | inr t ↦ cc ]
 
 -- what is not found after an insertion is neither found before nor inserted
 absent_by : (q k : ℕ) (ks : List ℕ) (b : Bool) → list_any (nat_eq k) ks ≡ b → list_any (nat_eq q) (if b then ks else ks ++ k ∷ []) ≡ false → (list_any (nat_eq q) ks ≡ false) × (nat_eq q k ≡ false)
@@ -40,7 +38,7 @@ absent_by q k ks true e h = elim (eqb_tells q k) [
   | inr (apart, _) ↦ (h, apart)
 ]
 absent_by q k ks false e h =
-    let both : (list_any (nat_eq q) ks || (nat_eq q k || false)) ≡ false = sym (any_append q ks (k ∷ [])) ∙ h in
+    let both : (list_any (nat_eq q) ks || (nat_eq q k || false)) ≡ false = sym (list_any-append (nat_eq q) ks (k ∷ [])) ∙ h in
     elim (cases_Bool (list_any (nat_eq q) ks)) [
       | inl t ↦ absurd (true≢false (sym (ap (λ b. b || (nat_eq q k || false)) t) ∙ both))
       | inr t ↦ elim (cases_Bool (nat_eq q k)) [
@@ -78,7 +76,7 @@ length_with (eql_to (point.Number r)) ks = omega arith
 length_with (eql_to (point.Sym t)) ks = omega arith
 length_with _ ks = omega arith
 
-pub length_named : (atoms : List Spec) (ks : List ℕ) → length (fold with_characters ks atoms) ≤ length ks + count_atoms is_character_point atoms
+pub length_named : (atoms : List Spec) (ks : List ℕ) → length (fold with_characters ks atoms) ≤ length ks + count_atoms is_character_point (map specifier atoms)
 length_named [] ks = omega arith
 length_named (a ∷ more) ks =
     let rest = length_named more (with_characters ks a) in
@@ -118,9 +116,6 @@ same_classes Any c d p q Base = grind (arith, nat_tests)
 scalar_below : (c : ℕ) → IsScalar c → c < 0x110000
 scalar_below c h = elim (scalar_cases c h) [ inl l ↦ omega arith | inr l ↦ l.1 ]
 
-abbrev is_character_flat : (c : ℕ) → Unit {0}
-is_character_flat c = tt
-
 not_named : (q k : ℕ) → IsNotNamedBy q (eql_to (point.Char k)) → nat_eq q k ≡ false
 not_named q k h = elim (cases_Bool (nat_eq q k)) [ inl t ↦ absurd (true≢false (sym (ap (λ b. b || false) t) ∙ h)) | inr t ↦ t ]
 
@@ -138,22 +133,22 @@ alike_in class c d (not_of s) p q is m n = absurd is
 alike_in class c d _ p q is m n = refl
 
 alike : (class : CharClass) (c d : ℕ) (atoms : List Spec) → is_just_in class c ≡ true → is_just_in class d ≡ true → AllByRecursion (λ a. IsFitAtom (specifier a)) atoms
-    → AllByRecursion (λ a. IsNotNamedBy c (specifier a)) atoms → AllByRecursion (λ a. IsNotNamedBy d (specifier a)) atoms → AreAlike character is_character_flat atoms c d
+    → AllByRecursion (λ a. IsNotNamedBy c (specifier a)) atoms → AllByRecursion (λ a. IsNotNamedBy d (specifier a)) atoms → AreAlike character atoms c d
 alike class c d [] p q fit m n = tt
 alike class c d (a ∷ more) p q fit m n = (alike_in class c d (specifier a) p q fit.0.0 m.0 n.0, alike class c d more p q fit.1 m.1 n.1)
 
 -- a character that is found stands for itself
-found : (c : ℕ) (atoms : List Spec) (cs : List ℕ) → list_any (nat_eq c) cs ≡ true → SomeOf (λ u. AreAlike character is_character_flat atoms u c) cs
+found : (c : ℕ) (atoms : List Spec) (cs : List ℕ) → list_any (nat_eq c) cs ≡ true → SomeOf (λ u. AreAlike character atoms u c) cs
 found c atoms [] h = cc
 found c atoms (k ∷ ks) h = elim (eqb_tells c k) [
-  | inl (_, same) ↦ inl (subst (λ u. AreAlike character is_character_flat atoms u c) same (AreAlike-itself character is_character_flat atoms c))
+  | inl (_, same) ↦ inl (subst (λ u. AreAlike character atoms u c) same (AreAlike-itself character atoms c))
   | inr (apart, _) ↦ inr (found c atoms ks (sym (ap (λ b. b || list_any (nat_eq c) ks) apart) ∙ h))
 ]
 
 -- one of the class that none names stands for every other such
 stands : (class : CharClass) (start end c : ℕ) (atoms : List Spec) (answer : Option ℕ) → AllByRecursion (λ a. IsFitAtom (specifier a)) atoms
     → MatchOption answer (AreNamedBetween (fold with_characters [] atoms) class start end) (IsUnnamed (fold with_characters [] atoms) class)
-    → IsScalar c → start ≤ c → c < end → is_just_in class c ≡ true → list_any (nat_eq c) (fold with_characters [] atoms) ≡ false → SomeOf (λ u. AreAlike character is_character_flat atoms u c) (option_to_list answer)
+    → IsScalar c → start ≤ c → c < end → is_just_in class c ≡ true → list_any (nat_eq c) (fold with_characters [] atoms) ≡ false → SomeOf (λ u. AreAlike character atoms u c) (option_to_list answer)
 stands class start end c atoms None fit named scalar low high just new = absurd (true≢false (sym (named c scalar low high just) ∙ new))
 stands class start end c atoms (Some d) fit unnamed scalar low high just new =
     inl (alike class d c atoms unnamed.is_just_in just fit (absent d atoms [] unnamed.is_new).1 (absent c atoms [] new).1)
@@ -170,7 +165,7 @@ module _ (atoms : List Spec) (standard base other : Option ℕ) (fit : AllByRecu
   abbrev named : List ℕ
   named = fold with_characters [] atoms
 
-  covered : (c : ℕ) → IsScalar c → SomeOf (λ u. AreAlike character is_character_flat atoms u c) (stand_ins named standard base other)
+  covered : (c : ℕ) → IsScalar c → SomeOf (λ u. AreAlike character atoms u c) (stand_ins named standard base other)
   covered c scalar = elim (cases_Bool (list_any (nat_eq c) named)) [
     | inl e ↦ SomeOf-front _ named _ (found c atoms named e)
     | inr e ↦ SomeOf-back _ named _ (elim (some_class c) [
@@ -181,7 +176,7 @@ module _ (atoms : List Spec) (standard base other : Option ℕ) (fit : AllByRecu
   ]
 
   pub char_law : (structures : Structures) → AreRepresentatives structures IsCharacter (λ a o. Belongs structures (specifier a) o) atoms answered
-  char_law structures (node marks (character c)) object class = represented character is_character_flat structures atoms answered (stand_ins named standard base other) marks c is (covered c object.1)
+  char_law structures (node marks (character c)) object class = represented character (λ c. tt) structures atoms answered (stand_ins named standard base other) marks c is (covered c object.1)
   char_law structures (node marks _) object class = absurd class
 
   scalars : AllByRecursion IsScalar named → AllByRecursion IsScalar (stand_ins named standard base other)
@@ -193,25 +188,18 @@ module _ (atoms : List Spec) (standard base other : Option ℕ) (fit : AllByRecu
 
   -- each answered object is one of the universe
   pub char_objects : AllByRecursion IsScalar named → (structures : Structures) → AllByRecursion (λ r. IsObject structures (lisp_object r)) answered
-  char_objects all structures = all_answered character is_character_flat (IsObject structures) answered (stand_ins named standard base other) is (AllByRecursion-weaker IsScalar (λ c. IsObject structures (node [] (character c))) (λ c h. (tt, h)) (stand_ins named standard base other) (scalars all))
+  char_objects all structures = each_answered (object_of character) (IsObject structures) answered (stand_ins named standard base other) is (AllByRecursion-weaker IsScalar (λ c. IsObject structures (node [] (character c))) (λ c h. (tt, h)) (stand_ins named standard base other) (scalars all))
 
   -- each is a plain character
   pub char_plains : AllByRecursion (λ r. IsPlainOf IsCharacter (lisp_object r)) answered
-  char_plains = all_answered character is_character_flat (IsPlainOf IsCharacter) answered (stand_ins named standard base other) is (everywhere (stand_ins named standard base other))
-    where
-      everywhere : (cs : List ℕ) → AllByRecursion (λ c. IsPlainOf IsCharacter (node [] (character c))) cs
-      everywhere [] = tt
-      everywhere (c ∷ cs) = ((refl, tt), everywhere cs)
-
-  at_most_one : (answer : Option ℕ) → length (option_to_list answer) ≤ 1
-  at_most_one None = omega arith
-  at_most_one (Some c) = omega arith
+  char_plains = each_answered (object_of character) (IsPlainOf IsCharacter) answered (stand_ins named standard base other) is
+      (all_of (λ c. IsPlainOf IsCharacter (node [] (character c))) (λ c. (refl, tt)) (stand_ins named standard base other))
 
   -- there are few of them
-  pub char_count : length answered ≤ 4 + count_atoms is_character_point atoms
+  pub char_count : length answered ≤ 4 + count_atoms is_character_point (map specifier atoms)
   char_count =
-      let e = count_answered character is_character_flat answered (stand_ins named standard base other) is in
-      let n : length named ≤ count_atoms is_character_point atoms = omega (arith, length_named atoms []) in
+      let e = as_many_answered (object_of character) answered (stand_ins named standard base other) is in
+      let n : length named ≤ count_atoms is_character_point (map specifier atoms) = omega (arith, length_named atoms []) in
       let x = at_most_one standard in
       let y = at_most_one base in
       let z = at_most_one other in

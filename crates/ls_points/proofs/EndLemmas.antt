@@ -1,5 +1,5 @@
 -- The ends that atoms name, and sorted ends.
-use Rattle.std.proofs.Common.{ℕ, suc, ◌≡◌, ◌+◌, ◌*◌, ◌<◌, ◌≤◌, ap, sym, subst, ◌∙◌, false, if◌then◌else◌, List, [], ◌∷◌, ◌++◌, length, get_or, take, drop, length-append, arith}
+use Rattle.std.proofs.Common.{ℕ, suc, ◌≡◌, ◌+◌, ◌*◌, ◌<◌, ◌≤◌, ap, sym, subst, ◌∙◌, false, if◌then◌else◌, List, [], ◌∷◌, ◌++◌, map, length, get_or, take, drop, length-append, arith}
 use Rattle.std.specs.List.{AllByRecursion}
 use Rattle.std.specs.List.Sorted.{IsPermutation, IsSortedBy}
 use Rattle.std.proofs.Math.Seq.{drop-cons}
@@ -16,7 +16,7 @@ use Rattle.ls_spec.specs.declared.spec.Point.TheVariants as point
 use Rattle.ls_spec.specs.declared.spec.Spec.{Spec}
 use Rattle.ls_spec.proofs.ListLemmas.{AllByRecursion-append}
 use Rattle.ls_points.specs.Classes.{IsFitAtom, is_range, is_number_point, count_atoms}
-use Rattle.ls_points.specs.Numbers.{bound_end, named_ends, ends_of, IsAtMost, is_less, AreRisingFrom, AreRising, GoesUpTo}
+use Rattle.ls_points.specs.steps.Numbers.{bound_end, named_ends, ends_of, IsAtMost, is_less, AreRisingFrom, AreRising, GoesUpTo}
 use Rattle.ls_points.proofs.FractionLemmas.{neighbour}
 use Rattle.ls_points.proofs.GapLemmas.{Stands, Stands-more}
 
@@ -76,7 +76,7 @@ count_named (range_of k lo hi) =
 count_named _ = omega arith
 
 -- how many ends the atoms name
-pub count_ends : (atoms : List Spec) → length (ends_of atoms) ≤ 2 * count_atoms is_range atoms + count_atoms is_number_point atoms
+pub count_ends : (atoms : List Spec) → length (ends_of atoms) ≤ 2 * count_atoms is_range (map specifier atoms) + count_atoms is_number_point (map specifier atoms)
 count_ends [] = omega arith
 count_ends (a ∷ more) =
     let e = length-append (named_ends (specifier a)) (ends_of more) in

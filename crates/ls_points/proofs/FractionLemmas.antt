@@ -1,5 +1,5 @@
 -- The order of fractions.
-use Rattle.std.proofs.Common.{ℕ, zero, suc, ℤ, pos, unsigned_abs, ◌≡◌, ◌+◌, ◌-◌, ◌*◌, ◌<◌, ◌≤◌, ◌*ℤ◌, ◌≤ℤ◌, ◌⊎◌, inl, inr, refl, ap, sym, subst, ◌∙◌, Bool, true, false, not, true≢false, arith}
+use Rattle.std.proofs.Common.{ℕ, zero, suc, ℤ, pos, unsigned_abs, ◌≡◌, ◌+◌, ◌-◌, ◌*◌, ◌<◌, ◌≤◌, ◌*ℤ◌, ◌≤ℤ◌, inl, inr, refl, ap, sym, subst, ◌∙◌, Bool, true, false, not, true≢false, arith}
 use Rattle.std.specs.Int.{IsGcd}
 use Rattle.std.specs.Ordering.{is_lt}
 use Rattle.std.specs.Cmp.{IsStrictWeakOrder}
@@ -13,7 +13,7 @@ use borrow.Author.Differences.{up, down}
 use Rattle.ls_object.specs.Ratio.{IsLessRatio, ratio_cmp}
 use Rattle.ls_object.specs.declared.rat.Rat.{Rat}
 use Rattle.ls_spec.proofs.TruthLemmas.{Decides-int_le}
-use Rattle.ls_points.specs.Numbers.{Fraction, fraction, is_at_most, is_integer, IsAtMost, is_less}
+use Rattle.ls_points.specs.steps.Numbers.{Fraction, fraction, is_at_most, is_integer, IsAtMost, is_less}
 
 -- ---- total and transitive
 

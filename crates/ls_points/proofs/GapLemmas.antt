@@ -7,8 +7,8 @@ use Rattle.ls_object.specs.Ratio.{IsLessRatio, HasNoIntegerBetween}
 use Rattle.ls_object.specs.declared.rat.Rat.{Rat}
 use Rattle.ls_spec.proofs.ListLemmas.{AllByRecursion-push, AllByRecursion-weaker}
 use Rattle.ls_points.specs.declared.numbers.GapNumbers.{GapNumbers}
-use Rattle.ls_points.specs.Numbers.{Fraction, fraction, is_at_most, is_integer, IsAtMost, CompareAlike, AreLike, AreStandIns, IsLess, gap_numbers, IsIntegerBetween, AreBetween, AreBelow, AreAbove, GoesUpTo}
-use Rattle.ls_points.specs.Some.{SomeOf}
+use Rattle.ls_points.specs.steps.Numbers.{Fraction, fraction, is_at_most, is_integer, IsAtMost, CompareAlike, AreLike, AreStandIns, IsLess, gap_numbers, IsIntegerBetween, AreBetween, AreBelow, AreAbove, GoesUpTo}
+use Rattle.ls_points.specs.steps.Some.{SomeOf}
 use Rattle.ls_points.proofs.FlatLemmas.{SomeOf-front, SomeOf-back, SomeOf-weaker}
 use Rattle.ls_points.proofs.FractionLemmas.{at_most_total, at_most_itself, at_most_through, at_most_equal, less_false, false_less, not_at_most, integer_den, den_integer, no_integer}
 

@@ -19,13 +19,11 @@ use Rattle.ls_spec.specs.Regions.{AreRepresentatives, IsPlainOf}
 use Rattle.ls_spec.specs.Truth.{holds, nothing_learnt}
 use Rattle.ls_spec.proofs.TruthLemmas.{Decides-kind}
 use Rattle.ls_points.specs.Classes.{IsOpaque, IsFitAtom, is_kind, count_atoms}
-use Rattle.ls_points.specs.Kinds.{named_kind, named_kinds, is_in_none}
+use Rattle.ls_points.specs.steps.Kinds.{named_kind, named_kinds, is_in_none}
 use Rattle.ls_points.specs.declared.kinds.TheConstants.{KINDS}
-use Rattle.ls_points.specs.Some.{SomeOf}
-use Rattle.ls_points.proofs.FlatLemmas.{SomeOf-front, SomeOf-back, SomeOf-weaker, AreAlike, AreAlike-itself, represented, all_answered, count_answered}
-
-abbrev is_kind_flat : (k : Kind) → Unit {0}
-is_kind_flat k = tt
+use Rattle.ls_points.specs.steps.Some.{SomeOf}
+use Rattle.ls_points.proofs.AnsweredLemmas.{all_of, at_most_one, few_named, each_answered, as_many_answered}
+use Rattle.ls_points.proofs.FlatLemmas.{SomeOf-front, SomeOf-back, SomeOf-weaker, object_of, AreAlike, AreAlike-itself, represented}
 
 -- every kind is in the list of all
 every_kind : (k : Kind) → SomeOf (λ j. j ≡ k) KINDS
@@ -57,7 +55,7 @@ not_true true c h = cc
 not_true false c h = (refl, h)
 
 -- two kinds that are in none of the atoms are alike
-alike_in_none : (j k : Kind) (atoms : List Spec) → is_in_none j atoms ≡ true → is_in_none k atoms ≡ true → AreAlike opaque is_kind_flat atoms j k
+alike_in_none : (j k : Kind) (atoms : List Spec) → is_in_none j atoms ≡ true → is_in_none k atoms ≡ true → AreAlike opaque atoms j k
 alike_in_none j k [] h g = tt
 alike_in_none j k (a ∷ more) h g =
     let x = not_true _ (is_in_none j more) h in
@@ -102,63 +100,50 @@ named_or_in_none k (a ∷ more) fit = elim (cases_Bool (holds nothing_learnt (sp
 ]
 
 -- a kind stands for itself
-itself : (k j : Kind) (atoms : List Spec) → j ≡ k → AreAlike opaque is_kind_flat atoms j k
-itself k j atoms e = subst (λ i. AreAlike opaque is_kind_flat atoms i k) (sym e) (AreAlike-itself opaque is_kind_flat atoms k)
+itself : (k j : Kind) (atoms : List Spec) → j ≡ k → AreAlike opaque atoms j k
+itself k j atoms e = subst (λ i. AreAlike opaque atoms i k) (sym e) (AreAlike-itself opaque atoms k)
+
+-- an atom names at most one kind
+one_named : (s : Specifier) → length (named_kind s) ≤ (if is_kind s then 1 else 0)
+one_named (kind_of k) = omega arith
+one_named _ = omega arith
 
 -- the named kinds, OTHER-STRUCTURE, and one that is in none of the atoms, where there is one
 abbrev pub stand_ins : List Kind → Option Kind → List Kind
 stand_ins named unnamed = named ++ (OtherStructure ∷ option_to_list unnamed)
 
-unnamed_stands : (k : Kind) (atoms : List Spec) (unnamed : Option Kind) → MatchOption unnamed (AllByRecursion (λ j. is_in_none j atoms ≡ false) KINDS) (λ j. is_in_none j atoms ≡ true) → is_in_none k atoms ≡ true → SomeOf (λ j. AreAlike opaque is_kind_flat atoms j k) (option_to_list unnamed)
+unnamed_stands : (k : Kind) (atoms : List Spec) (unnamed : Option Kind) → MatchOption unnamed (AllByRecursion (λ j. is_in_none j atoms ≡ false) KINDS) (λ j. is_in_none j atoms ≡ true) → is_in_none k atoms ≡ true → SomeOf (λ j. AreAlike opaque atoms j k) (option_to_list unnamed)
 unnamed_stands k atoms None none h = absurd (true≢false (sym h ∙ all_and_some (λ j. is_in_none j atoms) k KINDS none (every_kind k)))
 unnamed_stands k atoms (Some j) found h = inl (alike_in_none j k atoms found h)
 
 module _ (atoms : List Spec) (unnamed : Option Kind) (fit : AllByRecursion (λ a. IsFitAtom (specifier a)) atoms) (unnamed_is : MatchOption unnamed (AllByRecursion (λ j. is_in_none j atoms ≡ false) KINDS) (λ j. is_in_none j atoms ≡ true))
     (answered : List Object) (is : map lisp_object answered ≡ map (λ k. node [] (opaque k)) (stand_ins (named_kinds atoms) unnamed)) where
-  covered : (k : Kind) → SomeOf (λ j. AreAlike opaque is_kind_flat atoms j k) (stand_ins (named_kinds atoms) unnamed)
+  covered : (k : Kind) → SomeOf (λ j. AreAlike opaque atoms j k) (stand_ins (named_kinds atoms) unnamed)
   covered k = elim (named_or_in_none k atoms fit) [
-    | inl named ↦ SomeOf-front _ (named_kinds atoms) _ (SomeOf-weaker (λ j. j ≡ k) (λ j. AreAlike opaque is_kind_flat atoms j k) (λ j e. itself k j atoms e) (named_kinds atoms) named)
+    | inl named ↦ SomeOf-front _ (named_kinds atoms) _ (SomeOf-weaker (λ j. j ≡ k) (λ j. AreAlike opaque atoms j k) (λ j e. itself k j atoms e) (named_kinds atoms) named)
     | inr (inl other) ↦ SomeOf-back _ (named_kinds atoms) _ (inl (itself k OtherStructure atoms (sym other)))
     | inr (inr none) ↦ SomeOf-back _ (named_kinds atoms) _ (inr (unnamed_stands k atoms unnamed unnamed_is none))
   ]
 
   pub kind_law : (structures : Structures) → AreRepresentatives structures IsOpaque (λ a o. Belongs structures (specifier a) o) atoms answered
-  kind_law structures (node marks (opaque k)) object class = represented opaque is_kind_flat structures atoms answered (stand_ins (named_kinds atoms) unnamed) marks k is (covered k)
+  kind_law structures (node marks (opaque k)) object class = represented opaque (λ k. tt) structures atoms answered (stand_ins (named_kinds atoms) unnamed) marks k is (covered k)
   kind_law structures (node marks _) object class = absurd class
-
-  everywhere : (P : LispObject → Type 0) → ((k : Kind) → P (node [] (opaque k))) → (kinds : List Kind) → AllByRecursion (λ k. P (node [] (opaque k))) kinds
-  everywhere P h [] = tt
-  everywhere P h (k ∷ ks) = (h k, everywhere P h ks)
 
   -- each answered object is one of the universe
   pub kind_objects : (structures : Structures) → AllByRecursion (λ r. IsObject structures (lisp_object r)) answered
-  kind_objects structures = all_answered opaque is_kind_flat (IsObject structures) answered (stand_ins (named_kinds atoms) unnamed) is (everywhere (IsObject structures) (λ k. (tt, tt)) (stand_ins (named_kinds atoms) unnamed))
+  kind_objects structures = each_answered (object_of opaque) (IsObject structures) answered (stand_ins (named_kinds atoms) unnamed) is
+      (all_of (λ k. IsObject structures (node [] (opaque k))) (λ k. (tt, tt)) (stand_ins (named_kinds atoms) unnamed))
 
   -- each is a plain opaque object
   pub kind_plains : AllByRecursion (λ r. IsPlainOf IsOpaque (lisp_object r)) answered
-  kind_plains = all_answered opaque is_kind_flat (IsPlainOf IsOpaque) answered (stand_ins (named_kinds atoms) unnamed) is (everywhere (IsPlainOf IsOpaque) (λ k. (refl, tt)) (stand_ins (named_kinds atoms) unnamed))
-
-  one_named : (s : Specifier) → length (named_kind s) ≡ (if is_kind s then 1 else 0)
-  one_named (kind_of k) = refl
-  one_named _ = refl
-
-  length_named : (list : List Spec) → length (named_kinds list) ≡ count_atoms is_kind list
-  length_named [] = refl
-  length_named (a ∷ more) =
-      let e = length-append (named_kind (specifier a)) (named_kinds more) in
-      let f = one_named (specifier a) in
-      let g = length_named more in
-      omega arith
-
-  at_most_one : (answer : Option Kind) → length (option_to_list answer) ≤ 1
-  at_most_one None = omega arith
-  at_most_one (Some k) = omega arith
+  kind_plains = each_answered (object_of opaque) (IsPlainOf IsOpaque) answered (stand_ins (named_kinds atoms) unnamed) is
+      (all_of (λ k. IsPlainOf IsOpaque (node [] (opaque k))) (λ k. (refl, tt)) (stand_ins (named_kinds atoms) unnamed))
 
   -- there are few of them
-  pub kind_count : length answered ≤ 4 + count_atoms is_kind atoms
+  pub kind_count : length answered ≤ 4 + count_atoms is_kind (map specifier atoms)
   kind_count =
-      let e = count_answered opaque is_kind_flat answered (stand_ins (named_kinds atoms) unnamed) is in
-      let f = length_named atoms in
+      let e = as_many_answered (object_of opaque) answered (stand_ins (named_kinds atoms) unnamed) is in
+      let f = few_named named_kind is_kind one_named atoms in
       let g = length-append (named_kinds atoms) (OtherStructure ∷ option_to_list unnamed) in
       let h = at_most_one unnamed in
       omega arith

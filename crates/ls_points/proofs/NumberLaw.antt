@@ -7,7 +7,7 @@ use Rattle.std.proofs.lemmas.Bool.Decides.{Decides-and, Decides-int_eq, Decides-
 use Rattle.std.proofs.lemmas.List.Sorted.{IsPermutation-sym, length_permutation}
 use Rattle.ls_object.specs.declared.object.Object.{Object}
 use Rattle.ls_object.specs.declared.rat.Rat.{Rat}
-use Rattle.ls_object.specs.Universe.{LispObject, node, LispShape, number, Structures, IsObject}
+use Rattle.ls_object.specs.Universe.{node, LispShape, number, Structures, IsObject}
 use Rattle.ls_object.specs.Meaning.{lisp_object}
 use Rattle.ls_spec.specs.declared.spec.Bound.{Bound}
 use Rattle.ls_spec.specs.declared.spec.Bound.TheVariants.{Free, Incl, Excl}
@@ -18,25 +18,22 @@ use Rattle.ls_spec.specs.declared.spec.Spec.{Spec}
 use Rattle.ls_spec.specs.Fits.{IsAtom}
 use Rattle.ls_spec.specs.Meaning.{specifier}
 use Rattle.ls_spec.specs.Specifier.{Specifier, all_objects, no_objects, and_of, or_of, not_of, eql_to, range_of}
-use Rattle.ls_spec.specs.Membership.{Belongs}
+use Rattle.ls_spec.specs.Membership.{is_of_range_kind, Belongs}
 use Rattle.ls_spec.specs.Regions.{AreRepresentatives, IsPlainOf}
-use Rattle.ls_spec.specs.Truth.{holds, nothing_learnt, is_above, is_below, is_of_range_kind}
+use Rattle.ls_spec.specs.Truth.{holds, nothing_learnt, is_above, is_below}
 use Rattle.ls_spec.proofs.AlikeLemmas.{AllByRecursion-front, AllByRecursion-back}
 use Rattle.ls_points.specs.Classes.{IsNumber, IsFitAtom, is_range, is_number_point, count_atoms}
-use Rattle.ls_points.specs.Numbers.{Fraction, fraction, is_at_most, is_integer, bound_end, named_ends, ends_of, CompareAlike, AreLike, AreStandIns}
+use Rattle.ls_points.specs.steps.Numbers.{Fraction, fraction, is_at_most, is_integer, bound_end, named_ends, ends_of, CompareAlike, AreLike, AreStandIns}
 use Rattle.ls_points.proofs.EndLemmas.{AllByRecursion-permutation, count_ends}
-use Rattle.ls_points.specs.Some.{SomeOf}
-use Rattle.ls_points.proofs.FlatLemmas.{AreAlike, represented, all_answered, count_answered}
+use Rattle.ls_points.specs.steps.Some.{SomeOf}
+use Rattle.ls_points.proofs.AnsweredLemmas.{all_of, each_answered, as_many_answered}
+use Rattle.ls_points.proofs.FlatLemmas.{object_of, AreAlike, represented}
 use Rattle.ls_points.proofs.FractionLemmas.{at_most_same, at_most_equal}
 use Rattle.ls_points.proofs.GapLemmas.{alike as tests_alike}
 
 -- the shape of a fraction
 abbrev shape_of : Fraction → LispShape
 shape_of q = number q.num q.den
-
--- it has no parts
-abbrev is_number_flat : (q : Fraction) → Unit {0}
-is_number_flat q = tt
 
 -- ---- like fractions are in the same atoms
 
@@ -94,7 +91,7 @@ like_in (not_of s) p q is like = absurd is
 like_in _ p q is like = refl
 
 -- fractions that are like at all ends are in all atoms alike
-alike : (atoms : List Spec) (p q : Fraction) → AllByRecursion (λ a. IsFitAtom (specifier a)) atoms → AreLike (ends_of atoms) p q → AreAlike shape_of is_number_flat atoms p q
+alike : (atoms : List Spec) (p q : Fraction) → AllByRecursion (λ a. IsFitAtom (specifier a)) atoms → AreLike (ends_of atoms) p q → AreAlike shape_of atoms p q
 alike [] p q fit like = tt
 alike (a ∷ more) p q fit like =
     let here = AllByRecursion-front (CompareAlike p q) (named_ends (specifier a)) (ends_of more) like.0 in
@@ -119,11 +116,6 @@ length_fractions : (numbers : List Rat) → length (map fraction numbers) ≡ le
 length_fractions [] = refl
 length_fractions (r ∷ rs) = ap suc (length_fractions rs)
 
--- what holds of all numbers holds of those in a list
-everywhere : (P : LispObject → Type 0) → ((q : Fraction) → P (node [] (number q.num q.den))) → (qs : List Fraction) → AllByRecursion (λ q. P (node [] (number q.num q.den))) qs
-everywhere P h [] = tt
-everywhere P h (q ∷ qs) = (h q, everywhere P h qs)
-
 module _ (atoms : List Spec) (sorted numbers : List Rat) (fit : AllByRecursion (λ a. IsFitAtom (specifier a)) atoms) (same : IsPermutation (ends_of atoms) sorted) (right : AreStandIns sorted numbers) (few : length numbers ≤ 2 + 3 * length sorted)
     (answered : List Object) (are : map lisp_object answered ≡ map (λ r. node [] (number r.num r.den)) numbers) where
   -- the answered objects are those of the fractions
@@ -131,31 +123,33 @@ module _ (atoms : List Spec) (sorted numbers : List Rat) (fit : AllByRecursion (
   is = are ∙ fractions_is numbers
 
   -- each fraction is in the same atoms as one of them
-  covered : (q : Fraction) → SomeOf (λ p. AreAlike shape_of is_number_flat atoms p q) (map fraction numbers)
+  covered : (q : Fraction) → SomeOf (λ p. AreAlike shape_of atoms p q) (map fraction numbers)
   covered q =
       let (r, (i, l, e), like) = right q in
-      some_fraction (λ p. AreAlike shape_of is_number_flat atoms p q) numbers r i l e
+      some_fraction (λ p. AreAlike shape_of atoms p q) numbers r i l e
       (alike atoms (fraction r) q fit (AllByRecursion-permutation (CompareAlike (fraction r) q) sorted (ends_of atoms) (IsPermutation-sym (ends_of atoms) sorted same) like.0, like.1))
 
   -- the numbers stand for all numbers
   pub number_law : (structures : Structures) → AreRepresentatives structures IsNumber (λ a o. Belongs structures (specifier a) o) atoms answered
   number_law structures (node marks (number n d)) object class =
       let q : Fraction = record { num = n; den = d; positive = object.1.0; lowest = object.1.1 } in
-      represented shape_of is_number_flat structures atoms answered (map fraction numbers) marks q is (covered q)
+      represented shape_of (λ q. tt) structures atoms answered (map fraction numbers) marks q is (covered q)
   number_law structures (node marks _) object class = absurd class
 
   -- each answered object is one of the universe
   pub number_objects : (structures : Structures) → AllByRecursion (λ r. IsObject structures (lisp_object r)) answered
-  number_objects structures = all_answered shape_of is_number_flat (IsObject structures) answered (map fraction numbers) is (everywhere (IsObject structures) (λ q. (tt, (q.positive, q.lowest))) (map fraction numbers))
+  number_objects structures = each_answered (object_of shape_of) (IsObject structures) answered (map fraction numbers) is
+      (all_of (λ q. IsObject structures (node [] (shape_of q))) (λ q. (tt, (q.positive, q.lowest))) (map fraction numbers))
 
   -- each is a plain number
   pub number_plains : AllByRecursion (λ r. IsPlainOf IsNumber (lisp_object r)) answered
-  number_plains = all_answered shape_of is_number_flat (IsPlainOf IsNumber) answered (map fraction numbers) is (everywhere (IsPlainOf IsNumber) (λ q. (refl, tt)) (map fraction numbers))
+  number_plains = each_answered (object_of shape_of) (IsPlainOf IsNumber) answered (map fraction numbers) is
+      (all_of (λ q. IsPlainOf IsNumber (node [] (shape_of q))) (λ q. (refl, tt)) (map fraction numbers))
 
   -- there are few of them
-  pub number_count : length answered ≤ 4 + 6 * count_atoms is_range atoms + 3 * count_atoms is_number_point atoms
+  pub number_count : length answered ≤ 4 + 6 * count_atoms is_range (map specifier atoms) + 3 * count_atoms is_number_point (map specifier atoms)
   number_count =
-      let e = count_answered shape_of is_number_flat answered (map fraction numbers) is in
+      let e = as_many_answered (object_of shape_of) answered (map fraction numbers) is in
       let f = length_fractions numbers in
       let g = length_permutation (ends_of atoms) sorted same in
       let h = count_ends atoms in

@@ -9,6 +9,7 @@ use Rattle.ls_object.specs.declared.object.Object.{Object}
 use Rattle.ls_object.specs.declared.symbol.Symbol.{Symbol}
 use Rattle.ls_object.specs.Inclusion.{Under, itself, through, AreIncludedBefore, IsInclusionOrder}
 use Rattle.ls_object.specs.Meaning.{lisp_object}
+use Rattle.ls_object.specs.Symbols.{same_symbol}
 use Rattle.ls_object.specs.Universe.{LispObject, node, structure, Structures, IsStructureOf, IsName, IsObject}
 use Rattle.ls_spec.specs.declared.spec.Point.TheVariants as point
 use Rattle.ls_spec.specs.declared.spec.Spec.{Spec}
@@ -17,13 +18,12 @@ use Rattle.ls_spec.specs.Meaning.{specifier}
 use Rattle.ls_spec.specs.Membership.{Belongs}
 use Rattle.ls_spec.specs.Regions.{AreInSameAtoms, AreRepresentatives, IsPlainOf}
 use Rattle.ls_spec.specs.Specifier.{Specifier, all_objects, no_objects, and_of, or_of, not_of, eql_to, structure_under, any_structure}
-use Rattle.ls_spec.specs.Truth.{same_symbol}
-use Rattle.ls_spec.proofs.ListLemmas.{AllByRecursion-append, AllByRecursion-contains}
-use Rattle.ls_spec.proofs.TruthLemmas.{Decides-symbol}
-use Rattle.ls_points.specs.Classes.{is_structure_atom, count_atoms}
-use Rattle.ls_points.specs.Inheriting.{IsStructure, IsFitAtomOf, named_structure, named_structures, IsOneOf, IsUnnamedRoot, IsRootNamed, AreRootsNamed}
-use Rattle.ls_points.specs.Some.{SomeOf}
-use Rattle.ls_points.proofs.AnsweredLemmas.{find_answered, each_answered, as_many_answered}
+use Rattle.ls_spec.proofs.ListLemmas.{AllByRecursion-append, AllByRecursion-weaker, AllByRecursion-contains}
+use Rattle.ls_object.proofs.SymbolLemmas.{Decides-symbol}
+use Rattle.ls_points.specs.Classes.{IsStructure, IsFitAtomOf, is_structure_atom, count_atoms}
+use Rattle.ls_points.specs.steps.Inheriting.{named_structure, named_structures, IsOneOf, IsUnnamedRoot, IsRootNamed, AreRootsNamed}
+use Rattle.ls_points.specs.steps.Some.{SomeOf}
+use Rattle.ls_points.proofs.AnsweredLemmas.{at_most_one, few_named, find_answered, each_answered, as_many_answered}
 use Rattle.ls_points.proofs.FlatLemmas.{SomeOf-front, SomeOf-back, SomeOf-weaker}
 
 -- ---- one entry a name
@@ -149,26 +149,16 @@ known_names : (structures : Structures) (atoms : List Spec) → AllByRecursion (
 known_names structures [] fit = tt
 known_names structures (a ∷ more) fit = AllByRecursion-append (IsStructureOf structures) (named_structure (specifier a)) (named_structures more) (known_named structures (specifier a) fit.0.1.0) (known_names structures more fit.1)
 
-few_named : (s : Specifier) → length (named_structure s) ≤ (if is_structure_atom s then 1 else 0)
-few_named (structure_under w) = omega arith
-few_named any_structure = omega arith
-few_named _ = omega arith
+-- an atom has at most one structure name
+one_named : (s : Specifier) → length (named_structure s) ≤ (if is_structure_atom s then 1 else 0)
+one_named (structure_under w) = omega arith
+one_named any_structure = omega arith
+one_named _ = omega arith
 
-few_names : (atoms : List Spec) → length (named_structures atoms) ≤ count_atoms is_structure_atom atoms
-few_names [] = omega arith
-few_names (a ∷ more) =
-    let here = few_named (specifier a) in
-    let rest = few_names more in
-    let e = length-append (named_structure (specifier a)) (named_structures more) in
-    omega arith
-
+-- two facts at once
 both_of : (P Q : Symbol → Type 0) (xs : List Symbol) → AllByRecursion P xs → AllByRecursion Q xs → AllByRecursion (λ x. P x × Q x) xs
 both_of P Q [] h k = tt
 both_of P Q (x ∷ xs) h k = ((h.0, k.0), both_of P Q xs h.1 k.1)
-
-mapped_all : (P Q : Symbol → Type 0) → ((x : Symbol) → P x → Q x) → (xs : List Symbol) → AllByRecursion P xs → AllByRecursion Q xs
-mapped_all P Q f [] h = tt
-mapped_all P Q f (x ∷ xs) h = (f x h.0, mapped_all P Q f xs h.1)
 
 module _ (structures : Structures) (atoms : List Spec) (root : Option Symbol) (fit : AllByRecursion (λ a. IsFitAtomOf structures (specifier a)) atoms) (order : IsInclusionOrder structures)
     (root_is : MatchOption root (AreRootsNamed structures (named_structures atoms)) (IsUnnamedRoot structures (named_structures atoms)))
@@ -212,23 +202,19 @@ module _ (structures : Structures) (atoms : List Spec) (root : Option Symbol) (f
   struct_objects named found over e =
       subst (λ t. AllByRecursion (λ r. IsObject t (lisp_object r)) answered) (sym e)
       (each_answered (λ s. node [] (structure s)) (IsObject structures) answered (names ++ option_to_list root) is
-      (mapped_all (λ x. IsName x × IsStructureOf structures x) (λ x. IsObject structures (node [] (structure x))) (λ x h. (tt, h)) (names ++ option_to_list root)
+      (AllByRecursion-weaker (λ x. IsName x × IsStructureOf structures x) (λ x. IsObject structures (node [] (structure x))) (λ x h. (tt, h)) (names ++ option_to_list root)
       (both_of IsName (IsStructureOf structures) (names ++ option_to_list root) (AllByRecursion-append IsName names (option_to_list root) named (root_name root found)) all_known)))
 
   -- each is a plain structure of one of the types
   pub struct_plains : AllByRecursion (λ r. IsPlainOf (IsStructure structures) (lisp_object r)) answered
   struct_plains = each_answered (λ s. node [] (structure s)) (IsPlainOf (IsStructure structures)) answered (names ++ option_to_list root) is
-      (mapped_all (IsStructureOf structures) (λ x. IsPlainOf (IsStructure structures) (node [] (structure x))) (λ x h. (refl, h)) (names ++ option_to_list root) all_known)
-
-  at_most_one : (r : Option Symbol) → length (option_to_list r) ≤ 1
-  at_most_one None = omega arith
-  at_most_one (Some s) = omega arith
+      (AllByRecursion-weaker (IsStructureOf structures) (λ x. IsPlainOf (IsStructure structures) (node [] (structure x))) (λ x h. (refl, h)) (names ++ option_to_list root) all_known)
 
   -- there are few of them
-  pub struct_count : length answered ≤ 4 + count_atoms is_structure_atom atoms
+  pub struct_count : length answered ≤ 4 + count_atoms is_structure_atom (map specifier atoms)
   struct_count =
       let e = as_many_answered (λ s. node [] (structure s)) answered (names ++ option_to_list root) is in
-      let f = few_names atoms in
+      let f = few_named named_structure is_structure_atom one_named atoms in
       let g = length-append names (option_to_list root) in
       let h = at_most_one root in
       omega arith

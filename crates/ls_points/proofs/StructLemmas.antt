@@ -1,6 +1,6 @@
 -- Keys of structure names, and specifiers of structures part by part.
 use Rattle.std.proofs.lemmas.Bool.{cases_Bool}
-use Rattle.std.proofs.Common.{ℕ, zero, suc, ◌≡◌, ◌<◌, ap, refl, sym, subst, ◌∙◌, ◌⊎◌, inl, inr, Bool, true, false, ◌||◌, if◌then◌else◌, nat_eq, List, [], ◌∷◌, ◌++◌, length, get_or, Decides, Vec, arith}
+use Rattle.std.proofs.Common.{ℕ, zero, suc, ◌≡◌, ◌<◌, ap, refl, sym, subst, ◌∙◌, inl, inr, Bool, true, false, ◌||◌, if◌then◌else◌, nat_eq, List, [], ◌∷◌, ◌++◌, length, get_or, Decides, Vec, arith}
 use Rattle.std.specs.List.{AllByRecursion, Contains, list_any}
 use Rattle.std.specs.Cmp.Lexicographic.{pointwise}
 use Rattle.ls_object.specs.declared.symbol.Symbol.{Symbol}
@@ -11,8 +11,8 @@ use Rattle.ls_spec.specs.Meaning.{specifier, specifiers}
 use Rattle.ls_spec.specs.Membership.{Belongs, BelongsToAll, BelongsToSome}
 use Rattle.ls_spec.proofs.KeyLemmas.{same_symbol_key}
 use Rattle.ls_spec.proofs.ListLemmas.{AllByRecursion-contains}
-use Rattle.ls_spec.proofs.TruthLemmas.{Decides-text}
-use Rattle.ls_points.specs.Inheriting.{IsOneOf, has_key, is_key_of, AddsKeys}
+use Rattle.ls_object.proofs.SymbolLemmas.{Decides-text}
+use Rattle.ls_points.specs.steps.Inheriting.{IsOneOf, has_key, is_key_of, AddsKeys}
 
 -- ---- parts
 

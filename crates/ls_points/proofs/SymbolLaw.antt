@@ -1,15 +1,15 @@
 -- The symbols that stand for all symbols.
 use Rattle.std.proofs.lemmas.Bool.{cases_Bool}
-use Rattle.std.proofs.Common.{ℕ, zero, suc, ◌≡◌, ◌<◌, ◌≤◌, ◌+◌, ap, refl, sym, subst, ◌∙◌, ◌⊎◌, inl, inr, Bool, true, false, ◌&&◌, if◌then◌else◌, List, [], ◌∷◌, ◌++◌, map, length, replicate, get_or, take, arith, length-append, append_assoc}
+use Rattle.std.proofs.Common.{ℕ, zero, suc, ◌≡◌, ◌<◌, ◌≤◌, ◌+◌, ap, refl, sym, subst, ◌∙◌, ◌⊎◌, inl, inr, Bool, true, false, ◌&&◌, if◌then◌else◌, List, [], ◌∷◌, ◌++◌, map, length, replicate, max, arith, length-append, append_assoc}
 use Rattle.std.specs.Char.{IsScalar}
 use Rattle.std.specs.List.{AllByRecursion}
 use Rattle.std.specs.Str.{chars, IsUtf8}
-use Rattle.std.proofs.lemmas.Grind.{flat_map-append}
-use Rattle.std.proofs.lemmas.List.{map-append, take_more, length-replicate}
-use Rattle.std.proofs.lemmas.Str.{scalars-chars}
+use Rattle.std.proofs.lemmas.List.{map-append, length-replicate}
+use Rattle.std.proofs.lemmas.Str.{scalars-chars, length-le-encodes}
 use Rattle.std.proofs.Math.Utf8.{scalar, scalars}
 use Rattle.ls_object.specs.declared.object.Object.{Object}
 use Rattle.ls_object.specs.declared.symbol.Symbol.{Symbol}
+use Rattle.ls_object.specs.Symbols.{same_symbol}
 use Rattle.ls_object.specs.Universe.{LispObject, node, symbol, Structures, IsObject, IsName}
 use Rattle.ls_object.specs.Meaning.{lisp_object}
 use Rattle.ls_spec.specs.declared.spec.SymClass.{SymClass}
@@ -21,14 +21,15 @@ use Rattle.ls_spec.specs.Fits.{IsAtom}
 use Rattle.ls_spec.specs.Meaning.{specifier}
 use Rattle.ls_spec.specs.Membership.{Belongs}
 use Rattle.ls_spec.specs.Regions.{AreRepresentatives, IsPlainOf}
-use Rattle.ls_spec.specs.Truth.{holds, nothing_learnt, same_symbol, is_of_symbol_class}
+use Rattle.ls_spec.specs.Truth.{holds, nothing_learnt, is_of_symbol_class}
 use Rattle.ls_spec.proofs.ListLemmas.{AllByRecursion-append, AllByRecursion-weaker}
 use Rattle.ls_spec.proofs.AlikeLemmas.{AllByRecursion-front, AllByRecursion-back}
-use Rattle.ls_spec.proofs.TruthLemmas.{Decides-symbol}
+use Rattle.ls_object.proofs.SymbolLemmas.{Decides-symbol}
 use Rattle.ls_points.specs.Classes.{IsSymbol, IsFitAtom, is_symbol_point, count_atoms}
-use Rattle.ls_points.specs.Symbols.{named_symbol, named_symbols, keyword_past, symbol_past, AreShort}
-use Rattle.ls_points.specs.Some.{SomeOf}
-use Rattle.ls_points.proofs.FlatLemmas.{SomeOf-front, SomeOf-back, AreAlike, AreAlike-itself, represented, all_answered, count_answered}
+use Rattle.ls_points.specs.steps.Symbols.{named_symbol, named_symbols, longest, keyword_past, symbol_past, AreShort}
+use Rattle.ls_points.specs.steps.Some.{SomeOf}
+use Rattle.ls_points.proofs.AnsweredLemmas.{all_of, few_named, each_answered, as_many_answered}
+use Rattle.ls_points.proofs.FlatLemmas.{SomeOf-front, SomeOf-back, object_of, AreAlike, AreAlike-itself, represented}
 
 -- ---- names
 
@@ -44,23 +45,28 @@ AllByRecursion-scalars (c ∷ cs) h = let both = both_true (scalar c) (scalars c
 pub AllByRecursion-chars : (bs cs : List ℕ) → IsUtf8 bs → chars bs ≡ cs → AllByRecursion IsScalar cs
 AllByRecursion-chars bs cs u e = subst (AllByRecursion IsScalar) e (AllByRecursion-scalars (chars bs) (scalars-chars bs u))
 
+-- a longer name makes the longest no shorter
 AreShort-weaker : (m n : ℕ) (symbols : List Symbol) → m ≤ n → AreShort m symbols → AreShort n symbols
 AreShort-weaker m n symbols l h = AllByRecursion-weaker (λ s. length s.name < m + 1) (λ s. length s.name < n + 1) (λ s k. omega arith) symbols h
 
--- one more atom
-pub AreShort-more : (m k r : ℕ) (atoms : List Spec) (i : ℕ) (a : Spec) → i < length atoms → a ≡ get_or atoms i a → AreShort m (named_symbols (take i atoms)) → AreShort k (named_symbol (specifier a)) → m ≤ r → k ≤ r
-    → AreShort r (named_symbols (take (i + 1) atoms))
-AreShort-more m k r atoms i a l e h g p q =
-    let f : take (i + 1) atoms ≡ take i atoms ++ a ∷ [] = take_more atoms i a l ∙ ap (λ x. take i atoms ++ x ∷ []) (sym e) in
-    subst (λ list. AreShort r (named_symbols list)) (sym f)
-    (subst (AreShort r) (sym (flat_map-append (λ x. named_symbol (specifier x)) (take i atoms) (a ∷ [])))
-    (AllByRecursion-append (λ s. length s.name < r + 1) (named_symbols (take i atoms)) (named_symbol (specifier a) ++ []) (AreShort-weaker m r (named_symbols (take i atoms)) p h)
-    (AllByRecursion-append (λ s. length s.name < r + 1) (named_symbol (specifier a)) [] (AreShort-weaker k r (named_symbol (specifier a)) q g) tt)))
+-- no name is longer than the longest
+pub longest_short : (symbols : List Symbol) → AreShort (longest symbols) symbols
+longest_short [] = tt
+longest_short (s ∷ ss) =
+    let e = length-le-encodes s.name in
+    (omega (arith, e), AreShort-weaker (longest ss) (longest (s ∷ ss)) ss (omega arith) (longest_short ss))
 
+-- the longest of two lists
+pub longest-append : (xs ys : List Symbol) → longest (xs ++ ys) ≡ max (longest xs) (longest ys)
+longest-append [] ys = omega arith
+longest-append (x ∷ xs) ys = let e = longest-append xs ys in omega arith
+
+-- the letters of a made name are characters
 scalar_letters : (n : ℕ) → AllByRecursion IsScalar (replicate n 65)
 scalar_letters zero = tt
 scalar_letters (suc n) = (refl, scalar_letters n)
 
+-- so the made symbols are names
 IsName-keyword_past : (n : ℕ) → IsName (keyword_past n)
 IsName-keyword_past n = ((refl, (refl, (refl, (refl, (refl, (refl, (refl, tt))))))), scalar_letters (n + 1))
 
@@ -68,9 +74,6 @@ IsName-symbol_past : (n : ℕ) → IsName (symbol_past n)
 IsName-symbol_past n = ((refl, (refl, (refl, (refl, (refl, (refl, (refl, (refl, (refl, (refl, (refl, tt))))))))))), scalar_letters (n + 1))
 
 -- ---- the law
-
-abbrev is_symbol_flat : (s : Symbol) → Unit {0}
-is_symbol_flat s = tt
 
 -- the symbol is none of these
 abbrev IsNoneOf : Symbol → List Symbol → Type 0
@@ -91,7 +94,7 @@ alike_in s t (not_of x) same is m n = absurd is
 alike_in s t _ same is m n = refl
 
 alike : (s t : Symbol) (atoms : List Spec) → ((k : SymClass) → is_of_symbol_class k s ≡ is_of_symbol_class k t) → AllByRecursion (λ a. IsFitAtom (specifier a)) atoms → IsNoneOf s (named_symbols atoms) → IsNoneOf t (named_symbols atoms)
-    → AreAlike symbol is_symbol_flat atoms s t
+    → AreAlike symbol atoms s t
 alike s t [] same fit m n = tt
 alike s t (a ∷ more) same fit m n = (
   alike_in s t (specifier a) same fit.0.0 (AllByRecursion-front (λ u. same_symbol s u ≡ false) (named_symbol (specifier a)) (named_symbols more) m) (AllByRecursion-front (λ u. same_symbol t u ≡ false) (named_symbol (specifier a)) (named_symbols more) n),
@@ -110,12 +113,19 @@ longer_none n s (t ∷ ts) e h = (
 )
 
 -- a symbol is one of these or none
-named_or_none : (s : Symbol) (atoms : List Spec) (symbols : List Symbol) → SomeOf (λ u. AreAlike symbol is_symbol_flat atoms u s) symbols ⊎ IsNoneOf s symbols
+named_or_none : (s : Symbol) (atoms : List Spec) (symbols : List Symbol) → SomeOf (λ u. AreAlike symbol atoms u s) symbols ⊎ IsNoneOf s symbols
 named_or_none s atoms [] = inr tt
 named_or_none s atoms (t ∷ ts) = elim (cases_Bool (same_symbol s t)) [
-  | inl same ↦ inl (inl (subst (λ u. AreAlike symbol is_symbol_flat atoms u s) ((Decides-symbol s t).0 same) (AreAlike-itself symbol is_symbol_flat atoms s)))
+  | inl same ↦ inl (inl (subst (λ u. AreAlike symbol atoms u s) ((Decides-symbol s t).0 same) (AreAlike-itself symbol atoms s)))
   | inr apart ↦ elim (named_or_none s atoms ts) [ inl some ↦ inl (inr some) | inr none ↦ inr (apart, none) ]
 ]
+
+-- an atom names at most one symbol
+one_named : (s : Specifier) → length (named_symbol s) ≤ (if is_symbol_point s then 1 else 0)
+one_named (eql_to (point.Sym s)) = omega arith
+one_named (eql_to (point.Number r)) = omega arith
+one_named (eql_to (point.Char c)) = omega arith
+one_named _ = omega arith
 
 -- the named symbols, and a keyword and another symbol with a longer name
 abbrev pub stand_ins : List Symbol → ℕ → List Symbol
@@ -130,7 +140,7 @@ same_as_symbol s n e Any = refl
 same_as_symbol s n e Keyword = sym e
 
 module _ (atoms : List Spec) (n : ℕ) (fit : AllByRecursion (λ a. IsFitAtom (specifier a)) atoms) (short : AreShort n (named_symbols atoms)) (answered : List Object) (is : map lisp_object answered ≡ map (λ s. node [] (symbol s)) (stand_ins (named_symbols atoms) n)) where
-  covered : (s : Symbol) → SomeOf (λ u. AreAlike symbol is_symbol_flat atoms u s) (stand_ins (named_symbols atoms) n)
+  covered : (s : Symbol) → SomeOf (λ u. AreAlike symbol atoms u s) (stand_ins (named_symbols atoms) n)
   covered s = elim (named_or_none s atoms (named_symbols atoms)) [
     | inl some ↦ SomeOf-front _ (named_symbols atoms) _ some
     | inr none ↦ SomeOf-back _ (named_symbols atoms) _ (elim (cases_Bool (is_of_symbol_class Keyword s)) [
@@ -140,42 +150,25 @@ module _ (atoms : List Spec) (n : ℕ) (fit : AllByRecursion (λ a. IsFitAtom (s
   ]
 
   pub symbol_law : (structures : Structures) → AreRepresentatives structures IsSymbol (λ a o. Belongs structures (specifier a) o) atoms answered
-  symbol_law structures (node marks (symbol s)) object class = represented symbol is_symbol_flat structures atoms answered (stand_ins (named_symbols atoms) n) marks s is (covered s)
+  symbol_law structures (node marks (symbol s)) object class = represented symbol (λ s. tt) structures atoms answered (stand_ins (named_symbols atoms) n) marks s is (covered s)
   symbol_law structures (node marks _) object class = absurd class
 
   -- each answered object is one of the universe
   pub symbol_objects : AllByRecursion IsName (named_symbols atoms) → (structures : Structures) → AllByRecursion (λ r. IsObject structures (lisp_object r)) answered
-  symbol_objects names structures = all_answered symbol is_symbol_flat (IsObject structures) answered (stand_ins (named_symbols atoms) n) is
+  symbol_objects names structures = each_answered (object_of symbol) (IsObject structures) answered (stand_ins (named_symbols atoms) n) is
       (AllByRecursion-weaker IsName (λ s. IsObject structures (node [] (symbol s))) (λ s h. (tt, h)) (stand_ins (named_symbols atoms) n)
       (AllByRecursion-append IsName (named_symbols atoms) _ names (IsName-keyword_past n, (IsName-symbol_past n, tt))))
 
-  everywhere : (symbols : List Symbol) → AllByRecursion (λ s. IsPlainOf IsSymbol (node [] (symbol s))) symbols
-  everywhere [] = tt
-  everywhere (s ∷ ss) = ((refl, tt), everywhere ss)
-
   -- each is a plain symbol
   pub symbol_plains : AllByRecursion (λ r. IsPlainOf IsSymbol (lisp_object r)) answered
-  symbol_plains = all_answered symbol is_symbol_flat (IsPlainOf IsSymbol) answered (stand_ins (named_symbols atoms) n) is (everywhere (stand_ins (named_symbols atoms) n))
-
-  one_named : (s : Specifier) → length (named_symbol s) ≡ (if is_symbol_point s then 1 else 0)
-  one_named (eql_to (point.Sym s)) = refl
-  one_named (eql_to (point.Number r)) = refl
-  one_named (eql_to (point.Char c)) = refl
-  one_named _ = refl
-
-  length_named : (list : List Spec) → length (named_symbols list) ≡ count_atoms is_symbol_point list
-  length_named [] = refl
-  length_named (a ∷ more) =
-      let e = length-append (named_symbol (specifier a)) (named_symbols more) in
-      let f = one_named (specifier a) in
-      let g = length_named more in
-      omega arith
+  symbol_plains = each_answered (object_of symbol) (IsPlainOf IsSymbol) answered (stand_ins (named_symbols atoms) n) is
+      (all_of (λ s. IsPlainOf IsSymbol (node [] (symbol s))) (λ s. (refl, tt)) (stand_ins (named_symbols atoms) n))
 
   -- there are few of them
-  pub symbol_count : length answered ≤ 4 + count_atoms is_symbol_point atoms
+  pub symbol_count : length answered ≤ 4 + count_atoms is_symbol_point (map specifier atoms)
   symbol_count =
-      let e = count_answered symbol is_symbol_flat answered (stand_ins (named_symbols atoms) n) is in
-      let f = length_named atoms in
+      let e = as_many_answered (object_of symbol) answered (stand_ins (named_symbols atoms) n) is in
+      let f = few_named named_symbol is_symbol_point one_named atoms in
       let g = length-append (named_symbols atoms) (keyword_past n ∷ symbol_past n ∷ []) in
       omega arith
 

@@ -7,9 +7,9 @@ ghost use Rattle.std.specs.Option.{option_to_list};
 ghost use Rattle.ls_object.specs.Universe.{node, character};
 ghost use Rattle.ls_object.specs.Meaning.{lisp_object};
 ghost use Rattle.ls_spec.specs.Meaning.{specifier};
-ghost use Rattle.ls_spec.specs.Membership.{Belongs};
-ghost use Rattle.ls_points.specs.Classes.{IsCharacter, IsFitAtom, is_character_point, count_atoms};
-ghost use Rattle.ls_points.specs.Characters.{with_characters, is_just_in, IsUnnamed, AreNamedBetween};
+ghost use Rattle.ls_points.specs.Classes.{IsCharacter};
+ghost use Rattle.ls_points.specs.Members as members;
+ghost use Rattle.ls_points.specs.steps.Characters.{with_characters, is_just_in, IsUnnamed, AreNamedBetween};
 
 use crate::object::push_unmarked;
 use indexmap::IndexSet;
@@ -29,15 +29,15 @@ pub struct CharRegions;
 impl Regions for CharRegions {
     type Atom = Spec;
 
-    ghost IsOver = { λ _ _. Unit {0} };
+    ghost IsOver = { λ _ structures. members.IsOverEvery structures };
 
     ghost IsOfClass = { λ _ o. IsCharacter o };
 
-    ghost IsFit = { λ _ a. IsFitAtom (specifier a) };
+    ghost IsFit = { λ _ a. members.IsFit a };
 
-    ghost IsIn = { λ structures a o. Belongs structures (specifier a) o };
+    ghost IsIn = { members.IsIn };
 
-    ghost limit = { λ atoms. 4 + count_atoms is_character_point atoms };
+    ghost limit = { members.character_limit };
 
     fn covers(&self, object: &Object) -> bool {
         match object.shape {

@@ -6,10 +6,10 @@ ghost use Rattle.std.specs.Option.{option_to_list};
 ghost use Rattle.ls_object.specs.Universe.{node, opaque};
 ghost use Rattle.ls_object.specs.Meaning.{lisp_object};
 ghost use Rattle.ls_spec.specs.Meaning.{specifier};
-ghost use Rattle.ls_spec.specs.Membership.{Belongs};
 ghost use Rattle.ls_spec.specs.Truth.{holds, nothing_learnt};
-ghost use Rattle.ls_points.specs.Classes.{IsOpaque, IsFitAtom, is_kind, count_atoms};
-ghost use Rattle.ls_points.specs.Kinds.{named_kind, named_kinds, is_in_none};
+ghost use Rattle.ls_points.specs.Classes.{IsOpaque};
+ghost use Rattle.ls_points.specs.Members as members;
+ghost use Rattle.ls_points.specs.steps.Kinds.{named_kind, named_kinds, is_in_none};
 
 use crate::object::push_unmarked;
 use ls_object::{Items, Kind, Object, Shape};
@@ -42,15 +42,15 @@ pub struct OpaqueRegions;
 impl Regions for OpaqueRegions {
     type Atom = Spec;
 
-    ghost IsOver = { λ _ _. Unit {0} };
+    ghost IsOver = { λ _ structures. members.IsOverEvery structures };
 
     ghost IsOfClass = { λ _ o. IsOpaque o };
 
-    ghost IsFit = { λ _ a. IsFitAtom (specifier a) };
+    ghost IsFit = { λ _ a. members.IsFit a };
 
-    ghost IsIn = { λ structures a o. Belongs structures (specifier a) o };
+    ghost IsIn = { members.IsIn };
 
-    ghost limit = { λ atoms. 4 + count_atoms is_kind atoms };
+    ghost limit = { members.kind_limit };
 
     fn covers(&self, object: &Object) -> bool {
         match object.shape {

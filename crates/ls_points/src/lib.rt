@@ -4,6 +4,7 @@
 
 mod chars;
 mod kinds;
+mod laws;
 mod numbers;
 mod object;
 mod structs;
@@ -11,6 +12,10 @@ mod symbols;
 
 pub use chars::CharRegions;
 pub use kinds::OpaqueRegions;
+pub use laws::{
+    regions_of_characters, regions_of_numbers, regions_of_opaque_objects, regions_of_structures,
+    regions_of_symbols,
+};
 pub use numbers::NumberRegions;
 pub use structs::StructRegions;
 pub use symbols::SymbolRegions;

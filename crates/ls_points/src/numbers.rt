@@ -7,9 +7,9 @@ ghost use Rattle.ls_object.specs.Universe.{node, number};
 ghost use Rattle.ls_object.specs.Meaning.{lisp_object};
 ghost use Rattle.ls_spec.specs.Fits.{IsSmall};
 ghost use Rattle.ls_spec.specs.Meaning.{specifier};
-ghost use Rattle.ls_spec.specs.Membership.{Belongs};
-ghost use Rattle.ls_points.specs.Classes.{IsNumber, IsFitAtom, is_range, is_number_point, count_atoms};
-ghost use Rattle.ls_points.specs.Numbers.{bound_end, named_ends, ends_of, is_less, AreRising, AreRisingFrom, AreStandIns, IsLess, gap_numbers, IsIntegerBetween, AreBetween, AreBelow, AreAbove, GoesUpTo};
+ghost use Rattle.ls_points.specs.Classes.{IsNumber};
+ghost use Rattle.ls_points.specs.Members as members;
+ghost use Rattle.ls_points.specs.steps.Numbers.{bound_end, named_ends, ends_of, is_less, AreRising, AreRisingFrom, AreStandIns, IsLess, gap_numbers, IsIntegerBetween, AreBetween, AreBelow, AreAbove, GoesUpTo};
 
 use crate::object::push_unmarked;
 use ls_object::{Items, Object, Rat, Shape};
@@ -23,15 +23,15 @@ pub struct NumberRegions;
 impl Regions for NumberRegions {
     type Atom = Spec;
 
-    ghost IsOver = { λ _ _. Unit {0} };
+    ghost IsOver = { λ _ structures. members.IsOverEvery structures };
 
     ghost IsOfClass = { λ _ o. IsNumber o };
 
-    ghost IsFit = { λ _ a. IsFitAtom (specifier a) };
+    ghost IsFit = { λ _ a. members.IsFit a };
 
-    ghost IsIn = { λ structures a o. Belongs structures (specifier a) o };
+    ghost IsIn = { members.IsIn };
 
-    ghost limit = { λ atoms. 4 + 6 * count_atoms is_range atoms + 3 * count_atoms is_number_point atoms };
+    ghost limit = { members.number_limit };
 
     fn covers(&self, object: &Object) -> bool {
         match object.shape {

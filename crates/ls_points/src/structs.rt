@@ -9,8 +9,9 @@ ghost use Rattle.ls_object.specs.Meaning.{lisp_object};
 ghost use Rattle.ls_object.specs.Universe.{node, structure, IsName};
 ghost use Rattle.ls_spec.specs.Meaning.{specifier, specifiers};
 ghost use Rattle.ls_spec.specs.Membership.{Belongs, BelongsToAll, BelongsToSome};
-ghost use Rattle.ls_points.specs.Classes.{is_structure_atom, count_atoms};
-ghost use Rattle.ls_points.specs.Inheriting.{IsStructure, IsFitAtomOf, named_structure, named_structures, IsOneOf, IsUnnamed, IsRootNamed, IsUnnamedRoot, AreRootsNamed, AddsKeys, is_key_of, has_key};
+ghost use Rattle.ls_points.specs.Classes.{IsStructure};
+ghost use Rattle.ls_points.specs.Members as members;
+ghost use Rattle.ls_points.specs.steps.Inheriting.{named_structure, named_structures, IsOneOf, IsNewRoot, IsRootNamed, IsUnnamedRoot, AreRootsNamed, AddsKeys, is_key_of, has_key};
 
 use crate::object::push_unmarked;
 use crate::symbols::read_name;
@@ -18,6 +19,7 @@ use indexmap::IndexSet;
 use ls_object::{Items, Object, Parents, Shape, Symbol};
 use ls_spec::{Regions, Spec, key_of_name};
 use std::alloc::{AllocError, Global};
+use std::marker::Model;
 
 /// The structures of the structure types of a file.
 #[derive(Drop)]
@@ -25,10 +27,18 @@ pub struct StructRegions {
     parents: Parents,
 }
 
+impl Model for StructRegions {
+    ghost use Rattle.ls_object.specs.Universe.{Structures};
+
+    ghost Value = { Structures };
+
+    ghost view = { λ regions. regions.parents };
+}
+
 impl StructRegions {
     /// Those of these structure types.
     pub fn new(parents: Parents) -> StructRegions
-        ensures { result.parents ≡ parents }
+        ensures { result ≡ parents }
     {
         StructRegions { parents }
     }
@@ -37,15 +47,15 @@ impl StructRegions {
 impl Regions for StructRegions {
     type Atom = Spec;
 
-    ghost IsOver = { λ s structures. structures ≡ s.parents };
+    ghost IsOver = { members.IsOverItsOwn };
 
-    ghost IsOfClass = { λ s o. IsStructure s.parents o };
+    ghost IsOfClass = { IsStructure };
 
-    ghost IsFit = { λ s a. IsFitAtomOf s.parents (specifier a) };
+    ghost IsFit = { members.IsFitIn };
 
-    ghost IsIn = { λ structures a o. Belongs structures (specifier a) o };
+    ghost IsIn = { members.IsIn };
 
-    ghost limit = { λ atoms. 4 + count_atoms is_structure_atom atoms };
+    ghost limit = { members.structure_limit };
 
     fn covers(&self, object: &Object) -> bool {
         match &object.shape {
@@ -230,7 +240,7 @@ fn is_unnamed_root(
     pair: &(Symbol, Option<Symbol>),
     keys: &IndexSet<Vec<u128>>,
 ) -> Result<bool, AllocError>
-    ensures { IfOk result (λ b. (names : List Symbol) → AddsKeys names [] keys.now.keys → MatchBool b (IsUnnamed names pair.now) (IsRootNamed names pair.now)) }
+    ensures { IfOk result (λ b. (names : List Symbol) → AddsKeys names [] keys.now.keys → MatchBool b (IsNewRoot names pair.now) (IsRootNamed names pair.now)) }
 {
     let (name, include) = pair;
     match include {

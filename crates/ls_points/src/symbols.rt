@@ -1,13 +1,13 @@
 // The symbols.
 
-ghost use Rattle.std.specs.Prelude.{◌≡◌, ◌≤◌, ◌+◌, ◌++◌, [], ◌∷◌, map, length, replicate, IfOk, OnOk};
+ghost use Rattle.std.specs.Prelude.{◌≡◌, ◌+◌, ◌++◌, [], ◌∷◌, map, length, max, encode_utf8_all, IfOk, OnOk};
 ghost use Rattle.std.specs.List.{AllByRecursion};
 ghost use Rattle.ls_object.specs.Universe.{node, symbol, IsName};
 ghost use Rattle.ls_object.specs.Meaning.{lisp_object};
 ghost use Rattle.ls_spec.specs.Meaning.{specifier};
-ghost use Rattle.ls_spec.specs.Membership.{Belongs};
-ghost use Rattle.ls_points.specs.Classes.{IsSymbol, IsFitAtom, is_symbol_point, count_atoms};
-ghost use Rattle.ls_points.specs.Symbols.{named_symbol, named_symbols, name_past, keyword_past, symbol_past, AreShort};
+ghost use Rattle.ls_points.specs.Classes.{IsSymbol};
+ghost use Rattle.ls_points.specs.Members as members;
+ghost use Rattle.ls_points.specs.steps.Symbols.{named_symbol, named_symbols, longest, name_past, keyword_past, symbol_past};
 
 use crate::object::push_unmarked;
 use ls_object::{Items, Object, Shape, Symbol, Text};
@@ -20,15 +20,15 @@ pub struct SymbolRegions;
 impl Regions for SymbolRegions {
     type Atom = Spec;
 
-    ghost IsOver = { λ _ _. Unit {0} };
+    ghost IsOver = { λ _ structures. members.IsOverEvery structures };
 
     ghost IsOfClass = { λ _ o. IsSymbol o };
 
-    ghost IsFit = { λ _ a. IsFitAtom (specifier a) };
+    ghost IsFit = { λ _ a. members.IsFit a };
 
-    ghost IsIn = { λ structures a o. Belongs structures (specifier a) o };
+    ghost IsIn = { members.IsIn };
 
-    ghost limit = { λ atoms. 4 + count_atoms is_symbol_point atoms };
+    ghost limit = { members.symbol_limit };
 
     fn covers(&self, object: &Object) -> bool {
         match object.shape {
@@ -90,9 +90,9 @@ pub(crate) fn read_name(s: &Symbol)
     let _name = s.name.as_str();
 }
 
-/// The length in bytes of the longest name of a symbol that an atom names.
+/// The length in bytes of the longest name of a symbol that an atom names, or 0.
 fn longest_name(atoms: &[Spec]) -> usize
-    ensures { AreShort result (named_symbols atoms.now) }
+    ensures { result ≡ longest (named_symbols atoms.now) }
 {
     let mut longest = 0;
     for atom in atoms {
@@ -103,15 +103,14 @@ fn longest_name(atoms: &[Spec]) -> usize
 
 /// The greater of the two.
 fn longer(a: usize, b: usize) -> usize
-    ensures first { a ≤ result }
-    ensures second { b ≤ result }
+    ensures { result ≡ max a b }
 {
     if a < b { b } else { a }
 }
 
 /// The length in bytes of the name of the symbol that an atom names, or 0 where it names none.
 fn name_len(atom: &Spec) -> usize
-    ensures { AreShort result (named_symbol (specifier atom.now)) }
+    ensures { result ≡ longest (named_symbol (specifier atom.now)) }
 {
     match atom {
         Spec::Eql(Point::Sym(s)) => byte_len(&s.name),
@@ -119,9 +118,9 @@ fn name_len(atom: &Spec) -> usize
     }
 }
 
-/// The length in bytes, which is at least that in characters.
+/// The length in bytes.
 fn byte_len(text: &Text) -> usize
-    ensures { length text.now ≤ result }
+    ensures { result ≡ length (encode_utf8_all text.now) }
 {
     text.as_bytes().len()
 }

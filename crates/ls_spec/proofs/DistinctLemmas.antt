@@ -3,12 +3,12 @@ use Rattle.std.proofs.lemmas.Bool.{cases_Bool}
 use Rattle.std.proofs.Common.{◌≡◌, ap, refl, sym, subst, ◌∙◌, inl, inr, Bool, true, false, ◌||◌, if◌then◌else◌, true≢false, List, [], ◌∷◌, ◌++◌, fold, Decides, append-nil, append_assoc}
 use Rattle.std.specs.List.{list_any, Contains, AllByRecursion}
 use Rattle.std.proofs.lemmas.List.Folds.{Any-from_list_any, list_any-from_Any, list_any-append}
+use Rattle.ls_object.proofs.SymbolLemmas.{Decides-text}
 use Rattle.ls_spec.specs.Specifier.{Specifier}
 use Rattle.ls_spec.specs.Keys.{key}
 use Rattle.ls_spec.specs.Distinct.{same, with_new, distinct, AreDistinctPast, at_end, again, first, AreDistinctOf}
 use Rattle.ls_spec.proofs.KeyLemmas.{key_told}
 use Rattle.ls_spec.proofs.ListLemmas.{AllByRecursion-contains}
-use Rattle.ls_spec.proofs.TruthLemmas.{Decides-text}
 
 -- two specifiers are the same exactly where they are equal
 pub Decides-same : (s t : Specifier) → Decides (same s t) (s ≡ t)

@@ -3,6 +3,7 @@ use Rattle.std.proofs.Common.{ℕ, ℤ, pos, ◌≡◌, ap, refl, sym, ◌∙◌
 use Rattle.std.proofs.lemmas.Int.{ints}
 use Rattle.std.proofs.lemmas.Str.{encodes_same}
 use Rattle.ls_object.proofs.RatLemmas.{same_rat}
+use Rattle.ls_object.proofs.SymbolLemmas.{same_parts}
 use Rattle.ls_object.specs.declared.rat.Rat.{Rat}
 use Rattle.ls_object.specs.declared.symbol.Symbol.{Symbol}
 use Rattle.ls_spec.specs.declared.spec.Point.{Point}
@@ -19,7 +20,7 @@ use Rattle.ls_spec.specs.declared.spec.DimPattern.{DimPattern}
 use Rattle.ls_spec.specs.declared.spec.DimPattern.TheVariants as dimensions
 use Rattle.ls_spec.specs.Specifier.{Specifier, all_objects, no_objects, and_of, or_of, not_of, eql_to, range_of, chars_of, symbols_of, kind_of, structure_under, any_structure, array_any, array_of, string_of, cons_of, satisfies, Specifiers, no_more, also}
 use Rattle.ls_spec.specs.Keys.{bool_number, rat_key, text_key, symbol_key, point_key, bound_key, range_kind_number, char_class_number, symbol_class_number, place_key, places_key, dimensions_key, key, keys}
-use Rattle.ls_spec.proofs.TruthLemmas.{same_kind_number, same_parts}
+use Rattle.ls_spec.proofs.TruthLemmas.{same_kind_number}
 
 -- the key tells the value, also where more stands behind it
 abbrev IsTold : {X : Type 0} → (X → List ℕ) → X → X → List ℕ → List ℕ → Type 0

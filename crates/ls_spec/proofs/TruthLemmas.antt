@@ -1,10 +1,8 @@
 -- The truth value decides membership, where what was learnt is right.
-use Rattle.std.proofs.Common.{ℕ, ℤ, pos, ◌≡◌, ◌<◌, ◌≤◌, ◌≤ℤ◌, ◌<ℤ◌, ◌*ℤ◌, refl, ap, sym, subst, ◌∙◌, Bool, true, false, ◌&&◌, ◌==◌, int_le, int_lt, nat_eq, nat_le, List, [], ◌∷◌, Option, Some, None, Decides, arith, codes, slice_get}
+use Rattle.std.proofs.Common.{ℕ, ℤ, pos, ◌≡◌, ◌<◌, ◌≤◌, ◌≤ℤ◌, ◌<ℤ◌, ◌*ℤ◌, refl, ap, sym, subst, ◌∙◌, Bool, true, false, ◌&&◌, ◌==◌, int_le, int_lt, nat_le, List, [], ◌∷◌, Option, Some, None, Decides, arith, codes, slice_get}
 use Rattle.std.specs.List.{list_any, Contains}
-use Rattle.std.specs.Cmp.Lexicographic.{pointwise}
 use Rattle.std.proofs.lemmas.Bool.Decides.{Decides-and, Decides-or, Decides-not, Decides-int_eq, Decides-eqb, Decides-ltb, Decides-at}
 use Rattle.std.proofs.lemmas.List.Folds.{Any-from_list_any, list_any-from_Any}
-use Rattle.std.proofs.lemmas.Slice.Eq.{slice_eq-Decides}
 use Rattle.ls_object.specs.declared.kind.Kind.{Kind}
 use Rattle.ls_object.specs.declared.kind.Kind.TheVariants.{SingleFloat, DoubleFloat, Complex, Function, CompiledFunction, HashTable, Readtable, Package, Pathname, LogicalPathname, Stream, RandomState, Condition, Restart, OtherStructure, Other}
 use Rattle.ls_object.specs.declared.symbol.Symbol.{Symbol}
@@ -12,6 +10,7 @@ use Rattle.ls_object.specs.declared.table.TheConstants.{NIL_PLACE, BASE_CHAR_PLA
 use Rattle.ls_object.specs.Symbols.{same_symbol}
 use Rattle.ls_object.specs.Universe.{LispObject, node, LispShape, number, character, symbol, pair, array, structure, opaque, Structures}
 use Rattle.ls_object.specs.Inclusion.{Under}
+use Rattle.ls_object.proofs.SymbolLemmas.{Decides-text, Decides-symbol}
 use Rattle.ls_spec.specs.declared.spec.Point.{Point}
 use Rattle.ls_spec.specs.declared.spec.Point.TheVariants as point
 use Rattle.ls_spec.specs.declared.spec.RangeKind.{RangeKind}
@@ -43,21 +42,6 @@ Decides-int_lt a b = (λ e. grind arith, λ l. grind arith)
 
 Decides-le : (a b : ℕ) → Decides (nat_le a b) (a ≤ b)
 Decides-le a b = (λ e. grind arith, λ l. grind arith)
-
--- texts are equal where their characters are
-pub Decides-text : (a b : List ℕ) → Decides (pointwise nat_eq a b) (a ≡ b)
-Decides-text a b = slice_eq-Decides {E = nat_eq} Decides-eqb a b (pointwise nat_eq a b) refl
-
-abbrev symbol_with : List ℕ → List ℕ → Symbol
-symbol_with home name = record { «package» = home; name = name }
-
-pub same_parts : (s t : Symbol) → s.package ≡ t.package → s.name ≡ t.name → s ≡ t
-same_parts s t e f = ap (λ p. symbol_with p s.name) e ∙ ap (λ n. symbol_with t.package n) f
-
-pub Decides-symbol : (s t : Symbol) → Decides (same_symbol s t) (s ≡ t)
-Decides-symbol s t =
-    let both = Decides-and _ _ (Decides-text s.package t.package) (Decides-text s.name t.name) in
-    (λ e. let h = both.0 e in same_parts s t h.0 h.1, λ e. both.1 (ap (λ u. u.package) e, ap (λ u. u.name) e))
 
 abbrev kinds : List Kind
 kinds =

@@ -2,6 +2,7 @@ ghost use Rattle.std.specs.Prelude.{◌≡◌, [], IfOk};
 
 use ls_object::Parents;
 use std::alloc::{AllocError, Global};
+use std::marker::Model;
 
 /// The structure types of a file, each with the one that it includes, if it does (DEFSTRUCT).
 #[derive(Drop)]
@@ -9,10 +10,18 @@ pub struct Tree {
     parents: Parents,
 }
 
+impl Model for Tree {
+    ghost use Rattle.ls_object.specs.Universe.{Structures};
+
+    ghost Value = { Structures };
+
+    ghost view = { λ tree. tree.parents };
+}
+
 impl Tree {
     /// No structure types.
     pub fn new(alloc: Global) -> Tree
-        ensures { result.parents ≡ [] }
+        ensures { result ≡ [] }
     {
         Tree {
             parents: Parents::new(alloc),
@@ -21,7 +30,7 @@ impl Tree {
 
     /// The structure types, an included one before those that include it.
     pub fn parents(&self) -> &Parents
-        ensures { result.now ≡ self.now.parents }
+        ensures { result.now ≡ self.now }
     {
         &self.parents
     }

@@ -8,7 +8,7 @@ use Rattle.ls_spec.specs.Approximation.{HasNoPredicate, HaveNoPredicate}
 use Rattle.ls_spec.specs.Atoms.{leaves, leaves_of_all}
 use Rattle.ls_spec.specs.Fits.{IsAtom, HasSmallNumbers, HaveSmallNumbers, IsWithinLimits}
 use Rattle.ls_spec.specs.Membership.{Belongs}
-use Rattle.ls_spec.specs.Truth.{IsSelfContained, AreSelfContained}
+use Rattle.ls_spec.specs.SelfContained.{IsSelfContained, AreSelfContained}
 use Rattle.ls_spec.proofs.ListLemmas.{AllByRecursion-append}
 use Rattle.subtypep_app.specs.Built.{IsBuilt, AreBuilt}
 use Rattle.subtypep_app.specs.Searching.{IsCompound}

@@ -10,7 +10,7 @@ use Rattle.ls_spec.specs.Meaning.{specifier}
 use Rattle.ls_spec.specs.Membership.{Belongs}
 use Rattle.ls_spec.specs.Atoms.{atoms_of}
 use Rattle.ls_spec.specs.Inclusion.{IsWitness}
-use Rattle.ls_spec.specs.Truth.{IsFlat}
+use Rattle.ls_spec.specs.SelfContained.{IsFlat}
 
 -- the object is in the first type and outside the second
 abbrev pub Separates : Specifier → Specifier → LispObject → Type 0

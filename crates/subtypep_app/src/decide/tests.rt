@@ -3,7 +3,7 @@
 ghost use Rattle.std.specs.Prelude.{◌<◌, IfOk};
 ghost use Rattle.ls_spec.specs.Meaning.{specifier, specifiers};
 ghost use Rattle.ls_spec.specs.Fits.{HaveSmallNumbers, IsSmall, IsSmallBound};
-ghost use Rattle.ls_spec.specs.Truth.{IsSelfContained};
+ghost use Rattle.ls_spec.specs.SelfContained.{IsSelfContained};
 ghost use Rattle.subtypep_app.specs.Built.{AreBuilt, IsDecidable};
 
 use super::{decide, some_array};

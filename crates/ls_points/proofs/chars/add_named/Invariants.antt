@@ -1,5 +1,5 @@
 use Rattle.std.proofs.Common.{◌≡◌, fold, take}
-use Rattle.ls_points.specs.Characters.{with_characters}
+use Rattle.ls_points.specs.steps.Characters.{with_characters}
 use Rattle.ls_points.proofs.chars.add_named.Given as goal
 
 abbrev pub invariant-loop-atom : goal.invariant-loop-atom

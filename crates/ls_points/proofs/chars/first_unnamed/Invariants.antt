@@ -1,4 +1,4 @@
-use Rattle.ls_points.specs.Characters.{AreNamedBetween}
+use Rattle.ls_points.specs.steps.Characters.{AreNamedBetween}
 use Rattle.ls_points.proofs.chars.first_unnamed.Given as goal
 
 abbrev pub invariant-loop-code : goal.invariant-loop-code

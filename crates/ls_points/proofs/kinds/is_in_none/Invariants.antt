@@ -1,5 +1,5 @@
 use Rattle.std.proofs.Common.{◌≡◌, drop}
-use Rattle.ls_points.specs.Kinds.{is_in_none}
+use Rattle.ls_points.specs.steps.Kinds.{is_in_none}
 use Rattle.ls_points.proofs.kinds.is_in_none.Given as goal
 
 abbrev pub invariant-loop-atom : goal.invariant-loop-atom

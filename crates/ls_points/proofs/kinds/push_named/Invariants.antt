@@ -1,7 +1,7 @@
 use Rattle.std.proofs.Common.{◌≡◌, ◌++◌, [], map, take}
 use Rattle.ls_object.specs.Universe.{node, opaque}
 use Rattle.ls_object.specs.Meaning.{lisp_object}
-use Rattle.ls_points.specs.Kinds.{named_kinds}
+use Rattle.ls_points.specs.steps.Kinds.{named_kinds}
 use Rattle.ls_points.proofs.kinds.push_named.Given as goal
 
 abbrev pub invariant-loop-atom : goal.invariant-loop-atom

@@ -1,5 +1,5 @@
 use Rattle.std.proofs.Common.{◌≡◌, ◌++◌, take}
-use Rattle.ls_points.specs.Numbers.{ends_of}
+use Rattle.ls_points.specs.steps.Numbers.{ends_of}
 use Rattle.ls_points.proofs.numbers.push_ends.Given as goal
 
 abbrev pub invariant-loop-atom : goal.invariant-loop-atom

@@ -1,5 +1,5 @@
 use Rattle.std.proofs.Common.{◌∷◌, ◌++◌, [], ap, inr, ◌∙◌, append_assoc}
-use Rattle.ls_points.specs.Numbers.{gap_numbers}
+use Rattle.ls_points.specs.steps.Numbers.{gap_numbers}
 use Rattle.ls_points.proofs.numbers.push_gap_and_end.Goals as goal
 
 pub returns : goal.returns

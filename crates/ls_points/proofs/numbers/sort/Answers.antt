@@ -2,7 +2,7 @@ use Rattle.std.proofs.Common.{◌≡◌, ◌∙◌, ap, rules}
 use Rattle.std.specs.Ordering.{is_lt}
 use Rattle.std.proofs.lemmas.List.Sorted.{answers_always}
 use Rattle.ls_object.specs.Ratio.{ratio_cmp}
-use Rattle.ls_points.specs.Numbers.{is_less}
+use Rattle.ls_points.specs.steps.Numbers.{is_less}
 use Rattle.ls_points.proofs.FractionLemmas.{cmp_less, is_less_order}
 use Rattle.ls_points.proofs.numbers.sort.Goals as goal
 

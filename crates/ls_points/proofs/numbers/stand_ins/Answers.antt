@@ -1,5 +1,5 @@
 use Rattle.std.proofs.Common.{◌≡◌, refl, sym, subst, IfOk, List, [], ◌∷◌, length, arith}
-use Rattle.ls_points.specs.Numbers.{AreStandIns}
+use Rattle.ls_points.specs.steps.Numbers.{AreStandIns}
 use Rattle.ls_points.proofs.numbers.stand_ins.Goals as goal
 
 pub returns-in-Some-clause-law : goal.returns-in-Some-clause-law

@@ -1,5 +1,5 @@
 use Rattle.std.proofs.Common.{◌∷◌, ◌++◌, [], ap, sym, subst, ◌∙◌, length, take_all, length-append, arith}
-use Rattle.ls_points.specs.Numbers.{gap_numbers, AreStandIns}
+use Rattle.ls_points.specs.steps.Numbers.{gap_numbers, AreStandIns}
 use Rattle.ls_points.proofs.EndLemmas.{rising_at, stands_at}
 use Rattle.ls_points.proofs.GapLemmas.{Stands, Stands-first, AreStandIns-whole, count_gap, count_more}
 use Rattle.ls_points.proofs.numbers.stand_ins_from.Goals as goal

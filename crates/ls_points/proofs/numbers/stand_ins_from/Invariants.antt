@@ -1,6 +1,6 @@
 use Rattle.std.proofs.Common.{◌≤◌, ◌+◌, ◌*◌, ◌∷◌, length, take, drop}
 use Rattle.ls_spec.specs.Fits.{IsSmall}
-use Rattle.ls_points.specs.Numbers.{AreRisingFrom}
+use Rattle.ls_points.specs.steps.Numbers.{AreRisingFrom}
 use Rattle.ls_points.proofs.GapLemmas.{Stands}
 use Rattle.ls_points.proofs.numbers.stand_ins_from.Given as goal
 

@@ -1,5 +1,5 @@
 use Rattle.std.proofs.Common.{◌++◌, [], ap, sym, subst, ◌∙◌}
-use Rattle.ls_points.specs.Numbers.{gap_numbers, AreStandIns}
+use Rattle.ls_points.specs.steps.Numbers.{gap_numbers, AreStandIns}
 use Rattle.ls_points.proofs.GapLemmas.{AreStandIns-none}
 use Rattle.ls_points.proofs.numbers.stand_ins_of_none.Goals as goal
 

@@ -1,5 +1,5 @@
 use Rattle.std.proofs.Common.{take}
-use Rattle.ls_points.specs.Inheriting.{named_structures, AddsKeys}
+use Rattle.ls_points.specs.steps.Inheriting.{named_structures, AddsKeys}
 use Rattle.ls_points.proofs.structs.add_keys.Given as goal
 
 abbrev pub invariant-loop-atom : goal.invariant-loop-atom

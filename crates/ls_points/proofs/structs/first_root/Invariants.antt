@@ -1,7 +1,7 @@
 use Rattle.std.proofs.Common.{[], take, List}
 use Rattle.std.specs.List.{AllByRecursion}
 use Rattle.ls_object.specs.declared.symbol.Symbol.{Symbol}
-use Rattle.ls_points.specs.Inheriting.{AddsKeys, IsRootNamed}
+use Rattle.ls_points.specs.steps.Inheriting.{AddsKeys, IsRootNamed}
 use Rattle.ls_points.proofs.structs.first_root.Given as goal
 
 abbrev pub invariant-loop-pair : goal.invariant-loop-pair

@@ -2,7 +2,7 @@ use Rattle.std.proofs.Common.{◌≡◌, ◌++◌, [], map, take}
 use Rattle.std.specs.List.{AllByRecursion}
 use Rattle.ls_object.specs.Universe.{node, structure, IsName}
 use Rattle.ls_object.specs.Meaning.{lisp_object}
-use Rattle.ls_points.specs.Inheriting.{named_structures}
+use Rattle.ls_points.specs.steps.Inheriting.{named_structures}
 use Rattle.ls_points.proofs.structs.push_named.Given as goal
 
 abbrev pub invariant-loop-atom : goal.invariant-loop-atom

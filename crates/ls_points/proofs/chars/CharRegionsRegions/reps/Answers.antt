@@ -5,7 +5,7 @@ use Rattle.std.specs.Option.{option_to_list}
 use Rattle.ls_object.specs.Universe.{node, character}
 use Rattle.ls_object.specs.Meaning.{lisp_object}
 use Rattle.ls_spec.specs.declared.spec.CharClass.TheVariants.{Any, Base, Standard}
-use Rattle.ls_points.specs.Characters.{with_characters, IsUnnamed, AreNamedBetween}
+use Rattle.ls_points.specs.steps.Characters.{with_characters, IsUnnamed, AreNamedBetween}
 use Rattle.ls_points.proofs.CharLaw.{char_law, char_objects, char_plains, char_count, joined, stand_ins}
 use Rattle.ls_points.proofs.chars.CharRegionsRegions.reps.Goals as goal
 

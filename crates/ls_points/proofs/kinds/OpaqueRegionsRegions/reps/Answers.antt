@@ -1,6 +1,6 @@
 use Rattle.std.proofs.Common.{ap, map}
 use Rattle.ls_object.specs.Meaning.{lisp_object}
-use Rattle.ls_points.specs.Kinds.{named_kinds}
+use Rattle.ls_points.specs.steps.Kinds.{named_kinds}
 use Rattle.ls_points.proofs.KindLaw.{kind_law, kind_objects, kind_plains, kind_count, joined}
 use Rattle.ls_points.proofs.kinds.OpaqueRegionsRegions.reps.Goals as goal
 

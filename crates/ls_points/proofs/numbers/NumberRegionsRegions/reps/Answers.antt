@@ -3,7 +3,7 @@ use Rattle.std.specs.List.Sorted.{IsPermutation}
 use Rattle.ls_object.specs.declared.rat.Rat.{Rat}
 use Rattle.ls_object.specs.Universe.{node, number}
 use Rattle.ls_object.specs.Meaning.{lisp_object}
-use Rattle.ls_points.specs.Numbers.{ends_of, AreRising, AreStandIns}
+use Rattle.ls_points.specs.steps.Numbers.{ends_of, AreRising, AreStandIns}
 use Rattle.ls_points.proofs.EndLemmas.{sorted_rise}
 use Rattle.ls_points.proofs.NumberLaw.{number_law, number_objects, number_plains, number_count}
 use Rattle.ls_points.proofs.numbers.NumberRegionsRegions.reps.Goals as goal

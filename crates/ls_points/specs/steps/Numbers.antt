@@ -75,7 +75,8 @@ AreRising (end ∷ ends) = IsSmall end × AreRisingFrom end ends
 
 -- the two fractions compare alike with the end
 abbrev pub CompareAlike : Fraction → Fraction → Rat → Type 0
-CompareAlike a b end = (is_at_most (fraction end) a ≡ is_at_most (fraction end) b) × (is_at_most a (fraction end) ≡ is_at_most b (fraction end))
+CompareAlike a b end =
+    (is_at_most (fraction end) a ≡ is_at_most (fraction end) b) × (is_at_most a (fraction end) ≡ is_at_most b (fraction end))
 
 -- the two fractions compare alike with each end, and both are integers or neither is one
 abbrev pub AreLike : List Rat → Fraction → Fraction → Type 0
@@ -122,4 +123,6 @@ pub record AreAbove (end : Rat) (g : GapNumbers) : Type 0 where
 
 -- from one end to the next: nothing where they are equal, or else the numbers of the gap between them and the end
 abbrev pub GoesUpTo : Rat → Rat → List Rat → List Rat → Type 0
-GoesUpTo last end old new = (IsAtMost end last × (new ≡ old)) ⊎ (IsLess last end × ((g : GapNumbers) × (AreBetween last end g × (new ≡ old ++ (gap_numbers g ++ end ∷ [])))))
+GoesUpTo last end old new =
+    (IsAtMost end last × (new ≡ old))
+    ⊎ (IsLess last end × ((g : GapNumbers) × (AreBetween last end g × (new ≡ old ++ (gap_numbers g ++ end ∷ [])))))

@@ -34,4 +34,5 @@ pub record IsUnnamed (named : List ℕ) (class : CharClass) (c : ℕ) : Type 0 w
 
 -- every character just in the class, with a code from start to below end, is among the named ones
 abbrev pub AreNamedBetween : List ℕ → CharClass → ℕ → ℕ → Type 0
-AreNamedBetween named class start end = (c : ℕ) → IsScalar c → start ≤ c → c < end → is_just_in class c ≡ true → list_any (nat_eq c) named ≡ true
+AreNamedBetween named class start end =
+    (c : ℕ) → IsScalar c → start ≤ c → c < end → is_just_in class c ≡ true → list_any (nat_eq c) named ≡ true

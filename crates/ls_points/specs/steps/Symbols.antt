@@ -1,5 +1,5 @@
 -- The symbols that stand for all symbols.
-use Rattle.std.specs.Prelude.{ℕ, ◌+◌, ◌<◌, List, [], ◌∷◌, length, replicate, codes}
+use Rattle.std.specs.Prelude.{ℕ, ◌+◌, ◌<◌, List, [], ◌∷◌, length, max, replicate, codes, encode_utf8_all}
 use Rattle.std.specs.List.{AllByRecursion, flat_map}
 use Rattle.ls_object.specs.declared.symbol.Symbol.{Symbol}
 use Rattle.ls_object.specs.Symbols.{common_lisp_symbol}
@@ -16,6 +16,11 @@ named_symbol _ = []
 -- the symbols that the atoms name, with repeats
 abbrev pub named_symbols : List Spec → List Symbol
 named_symbols atoms = flat_map (λ a. named_symbol (specifier a)) atoms
+
+-- the length in UTF-8 of the longest name, or 0
+abbrev pub longest : List Symbol → ℕ
+longest [] = 0
+longest (s ∷ symbols) = max (length (encode_utf8_all s.name)) (longest symbols)
 
 -- a name of as many letters A as given, and one more
 abbrev pub name_past : ℕ → List ℕ

@@ -3,22 +3,12 @@ use Rattle.std.specs.Prelude.{◌≡◌, ℕ, Bool, ◌||◌, nat_eq, List, [], 
 use Rattle.std.specs.List.{AllByRecursion, Contains, flat_map, list_any}
 use Rattle.std.specs.Cmp.Lexicographic.{pointwise}
 use Rattle.ls_object.specs.declared.symbol.Symbol.{Symbol}
-use Rattle.ls_object.specs.Universe.{LispObject, node, structure, Structures, IsStructureOf}
+use Rattle.ls_object.specs.Universe.{Structures}
 use Rattle.ls_spec.specs.declared.spec.Spec.{Spec}
-use Rattle.ls_spec.specs.Fits.{IsAtom, Fits}
 use Rattle.ls_spec.specs.Keys.{symbol_key}
 use Rattle.ls_spec.specs.Meaning.{specifier}
 use Rattle.ls_spec.specs.Specifier.{Specifier, structure_under}
-use Rattle.ls_points.specs.Some.{SomeOf}
-
--- a structure of one of the structure types
-abbrev pub IsStructure : Structures → LispObject → Type 0
-IsStructure structures (node marks (structure x)) = IsStructureOf structures x
-IsStructure structures _ = ⊥
-
--- an atom that fits by the list of structure types
-abbrev pub IsFitAtomOf : Structures → Specifier → Type 0
-IsFitAtomOf structures s = IsAtom s × Fits structures s
+use Rattle.ls_points.specs.steps.Some.{SomeOf}
 
 -- the structure name of an atom
 abbrev pub named_structure : Specifier → List Symbol
@@ -29,13 +19,13 @@ named_structure _ = []
 abbrev pub named_structures : List Spec → List Symbol
 named_structures atoms = flat_map (λ a. named_structure (specifier a)) atoms
 
--- the name is one of these, and none of these
+-- the name is one of these
 abbrev pub IsOneOf : Symbol → List Symbol → Type 0
 IsOneOf x names = SomeOf (λ y. y ≡ x) names
 
 -- the structure type includes none and is none of these
-abbrev pub IsUnnamed : List Symbol → Symbol × Option Symbol → Type 0
-IsUnnamed names p = (p.1 ≡ None) × (IsOneOf p.0 names → ⊥)
+abbrev pub IsNewRoot : List Symbol → Symbol × Option Symbol → Type 0
+IsNewRoot names p = (p.1 ≡ None) × (IsOneOf p.0 names → ⊥)
 
 -- if the structure type includes none, it is one of these
 abbrev pub IsRootNamed : List Symbol → Symbol × Option Symbol → Type 0
