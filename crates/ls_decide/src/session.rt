@@ -18,13 +18,13 @@ impl Model for Session {
 
     ghost Value = { Structures };
 
-    ghost view = { λ s. s.tree.parents };
+    ghost view = { λ s. s.tree };
 }
 
 impl Session {
     /// A session over the structure types of the tree.
     pub fn new(alloc: Global, tree: Tree) -> Result<Session, AllocError>
-        ensures { IfOk result (λ s. s ≡ tree.parents) }
+        ensures { IfOk result (λ s. s ≡ tree) }
     {
         Ok(Session { alloc, tree })
     }
