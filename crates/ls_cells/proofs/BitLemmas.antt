@@ -8,7 +8,7 @@ use Rattle.std.proofs.lemmas.Bool.Decides.{nat_tests}
 use Rattle.std.proofs.lemmas.Nat.{and_le_l}
 use Rattle.std.proofs.lemmas.Nat.Bits.{bit_at_and, bit_at_or, bit_at_xor, bit_at_not, bit_at-lt, bit_at-zero, bit_at_ones, bit_at_ones_above, bit_at-trailing_zeros}
 use Rattle.ls_cells.specs.Signs.{differ}
-use Rattle.ls_cells.specs.Words.{IsIntervalWord, IsNegatedWord}
+use Rattle.ls_cells.specs.steps.Words.{IsIntervalWord, IsNegatedWord}
 
 -- a bit is 0 or 1
 pub zero_or_one : (w i : ℕ) → (bit_at w i ≡ 0) ⊎ (bit_at w i ≡ 1)

@@ -8,7 +8,7 @@ use Rattle.std.proofs.lemmas.List.Folds.{list_any_at}
 use Rattle.std.proofs.lemmas.Nat.{or_lt, xor_lt, and_le_l}
 use Rattle.std.proofs.lemmas.Nat.Bits.{bit_at-zero}
 use Rattle.ls_cells.specs.Signs.{tabulate, at, is_set, zip_with, differ, meet}
-use Rattle.ls_cells.specs.Words.{Zipped, Apart, Met}
+use Rattle.ls_cells.specs.steps.Words.{Zipped, Apart, Met}
 use Rattle.ls_cells.proofs.BitLemmas.{and_test, or_test, xor_test, lowest_set}
 use Rattle.ls_cells.proofs.TabulateLemmas.{length-tabulate, at-tabulate, zip_tabulate, any_false}
 use Rattle.ls_cells.proofs.PackedLemmas.{Shows, shows, shown_length, is_set_in, refilled, Holding, holding_shows}

@@ -9,7 +9,7 @@ use Rattle.std.proofs.lemmas.Bool.Decides.{nat_tests}
 use Rattle.std.proofs.lemmas.List.{get_or_past, take-append-le}
 use Rattle.std.proofs.lemmas.Nat.Bits.{bit_at-zero, shr_and_one}
 use Rattle.ls_cells.specs.Signs.{tabulate, at, is_set, Packed}
-use Rattle.ls_cells.specs.Words.{IsIntervalWord, Negated, IsClear, IsSetIn, IsWithin, IsOutside}
+use Rattle.ls_cells.specs.steps.Words.{IsIntervalWord, Negated, IsClear, IsSetIn, IsWithin, IsOutside}
 use Rattle.ls_cells.proofs.BitLemmas.{outside_test}
 use Rattle.ls_cells.proofs.TabulateLemmas.{length-tabulate, at-tabulate, tabulate_same, map_tabulate, is_below, not_below}
 

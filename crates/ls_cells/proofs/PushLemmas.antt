@@ -9,7 +9,7 @@ use Rattle.std.proofs.lemmas.Nat.{xor_lt}
 use Rattle.std.proofs.lemmas.Nat.Bits.{bit_at_xor, bit_at-zero, bit_at-pow_same, bit_at-pow_other, bit_at_above}
 use Rattle.std.proofs.lemmas.List.{get_or_past, get_or-set_same, get_or-set_other, length-set, length_push, get_or_append_left, get_or-append_right}
 use Rattle.ls_cells.specs.Signs.{tabulate, at, is_set, Packed}
-use Rattle.ls_cells.specs.Words.{Pushed, flipped}
+use Rattle.ls_cells.specs.steps.Words.{Pushed, flipped}
 use Rattle.ls_cells.proofs.BitLemmas.{first_bit, zero_or_one}
 use Rattle.ls_cells.proofs.TabulateLemmas.{is_tabulate, tabulate_same, tabulate_more}
 use Rattle.ls_cells.proofs.PackedLemmas.{Shows, shows, shown_at, shown_length, has_word, refilled}

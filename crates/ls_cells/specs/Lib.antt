@@ -1,4 +1,4 @@
 pub mod Formulas
 pub mod Rows
 pub mod Signs
-pub mod Words
+pub mod steps

@@ -4,7 +4,7 @@ ghost use Rattle.std.specs.Hash as fed;
 ghost use Rattle.std.specs.Cmp.{bool_eq_equiv, booleans_Decides, partial_equiv_from_equiv};
 ghost use Rattle.std.specs.Cmp.Lexicographic.{pointwise, lists_equiv, pointwise_decides};
 ghost use Rattle.ls_cells.specs.Signs.{at, tabulate, zip_with, differ, meet, Packed, words_of};
-ghost use Rattle.ls_cells.specs.Words.{Pushed, flipped};
+ghost use Rattle.ls_cells.specs.steps.Words.{Pushed, flipped};
 
 use crate::words::{
     and_words, find_bit_outside, find_set_bit, interval_words, negate_words, or_words, words_meet,

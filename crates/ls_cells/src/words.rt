@@ -2,7 +2,7 @@
 
 ghost use Rattle.std.specs.Prelude.{◌≡◌, ◌<◌, ◌+◌, ◌*◌, ◌==◌, ◌^◌, ℕ, length, slice_index, bit_and, bit_or, bit_xor, nat_lt, IfOk, MatchOption, MatchBool};
 ghost use Rattle.std.specs.Int.{bit_at};
-ghost use Rattle.ls_cells.specs.Words.{Zipped, Apart, Met, IsIntervalWord, IsNegatedWord, Negated, IsClear, IsSetIn, IsWithin, IsOutside};
+ghost use Rattle.ls_cells.specs.steps.Words.{Zipped, Apart, Met, IsIntervalWord, IsNegatedWord, Negated, IsClear, IsSetIn, IsWithin, IsOutside};
 
 use smallvec::SmallVec;
 use std::alloc::{AllocError, Global};

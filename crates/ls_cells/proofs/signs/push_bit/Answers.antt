@@ -1,5 +1,5 @@
 use Rattle.std.proofs.Common.{◌∙◌, ◌++◌, ◌∷◌, [], ap, true, sym, subst, List, ℕ}
-use Rattle.ls_cells.specs.Words.{Pushed}
+use Rattle.ls_cells.specs.steps.Words.{Pushed}
 use Rattle.ls_cells.proofs.BitLemmas.{from_bool_is}
 use Rattle.ls_cells.proofs.PushLemmas.{pushed_word, pushed_false, pushed_true}
 use Rattle.ls_cells.proofs.signs.push_bit.Goals as goal

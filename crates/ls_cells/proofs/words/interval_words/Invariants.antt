@@ -1,5 +1,5 @@
 use Rattle.std.proofs.Common.{◌≡◌, ℕ, ◌<◌, ◌^◌, length, get_or}
-use Rattle.ls_cells.specs.Words.{IsIntervalWord}
+use Rattle.ls_cells.specs.steps.Words.{IsIntervalWord}
 use Rattle.ls_cells.proofs.words.interval_words.Given as goal
 
 abbrev pub invariant-words : goal.invariant-words

@@ -1,5 +1,5 @@
 use Rattle.std.proofs.Common.{◌≡◌, ℕ, ◌<◌, ◌≤◌, ◌^◌, get_or}
-use Rattle.ls_cells.specs.Words.{IsNegatedWord}
+use Rattle.ls_cells.specs.steps.Words.{IsNegatedWord}
 use Rattle.ls_cells.proofs.words.negate_words.Given as goal
 
 abbrev pub invariant-words : goal.invariant-words
