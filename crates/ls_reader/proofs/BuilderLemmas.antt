@@ -1,11 +1,11 @@
 -- A step takes the next piece exactly where the grammar does.
 use Rattle.std.proofs.Common.{◌≡◌, ◌≢◌, suc, ◌<◌, ◌⊎◌, inl, inr, Bool, true, false, cond, ltb, List, [], ◌∷◌, ◌++◌, length, map, Result, Ok, Err, Option, Some, None, IsTrue, refl, sym, ap, ◌∙◌, append_assoc, arith}
 use Rattle.std.specs.List.{flat_map, AllByRecursion}
-use Rattle.std.proofs.lemmas.Bool.{ltb-true, ltb-false, cond_both}
+use Rattle.std.proofs.lemmas.Bool.{ltb-true, ltb-false, cond_both, false≢true}
 use Rattle.std.proofs.lemmas.List.{append-nil, length-map}
 use Rattle.ls_reader.specs.declared.place.Place.{Place}
 use Rattle.ls_reader.specs.declared.datum.Datum.{Datum}
-use Rattle.ls_reader.specs.declared.datum.Form.{roll-Form}
+use Rattle.ls_reader.specs.declared.datum.Form.{Form, roll-Form}
 use Rattle.ls_reader.specs.declared.datum.Form.TheOpen.{Form-F}
 use Rattle.ls_reader.specs.declared.fault.FaultKind.{FaultKind}
 use Rattle.ls_reader.specs.declared.fault.FaultKind.TheVariants.{BadToken, BadDot, TooDeep}
@@ -19,8 +19,8 @@ use Rattle.ls_reader.specs.declared.builder.Builder.{Builder}
 use Rattle.ls_reader.specs.Places.{start}
 use Rattle.ls_reader.specs.Data as made
 use Rattle.ls_reader.specs.Features.{holds, is_kept}
-use Rattle.ls_reader.specs.Machine as machine
-use Rattle.ls_reader.specs.Machine.{Found, choose, put, begin, begin_datum, put_atom, close, dot, step}
+use Rattle.ls_reader.specs.steps.Building as machine
+use Rattle.ls_reader.specs.steps.Building.{PlacedFault, choose, put, begin, begin_datum, close, dot, step}
 use Rattle.ls_reader.specs.Lexemes.{Extent, Piece, piece}
 use Rattle.ls_reader.specs.Trees.{Tree, atom, list, dotted, marked, feature, trees, tree_pieces, kept, yields, Fits, Opening, list_of, dot_of, tail_of, mark_of, feature_of, chosen_of, opening_pieces, begun_pieces, admits, OpeningFits, AreBegun, Begun}
 use Rattle.ls_reader.specs.Faults.{Second, TooMany, TooDeepDatum, EndsWrong, Refused}
@@ -72,17 +72,17 @@ holds_of : (ps : List Piece) (whole : List Tree) (w : List Opening) → ps ≡ f
 holds_of ps whole w e f g b is = record { whole = whole; w = w; begun = record { are = e; whole_fit = f; begun_fit = g }; is = is }
 
 -- one datum or none goes into the construct around it
-abbrev pub give : List Datum → List Frame → List Datum → Result Builder Found
+abbrev pub give : List Datum → List Frame → List Datum → Result Builder PlacedFault
 give [] w done = Ok (builder w done)
 give (d ∷ ds) w done = put d w done
 
 -- what a builder has after a datum holds the pieces, or an expression out of form has ended
-abbrev pub GivenBy : List Piece → (Place → Type 0) → Result Builder Found → Type 0
+abbrev pub GivenBy : List Piece → (Place → Type 0) → Result Builder PlacedFault → Type 0
 GivenBy ps W (Ok b) = Holds ps b
 GivenBy ps W (Err x) = (x.0 ≡ BadToken) × W x.1
 
 -- what is known of the place of an expression out of form may be weakened
-given_weaker : (ps : List Piece) (W V : Place → Type 0) (r : Result Builder Found) → ((p : Place) → W p → V p) → GivenBy ps W r → GivenBy ps V r
+given_weaker : (ps : List Piece) (W V : Place → Type 0) (r : Result Builder PlacedFault) → ((p : Place) → W p → V p) → GivenBy ps W r → GivenBy ps V r
 given_weaker ps W V (Ok b) f h = h
 given_weaker ps W V (Err x) f h = (h.0, f x.1 h.1)
 
@@ -183,12 +183,12 @@ give_one (chosen_of q plus us c vs ∷ w) t whole ps d fits y can all begun e =
 -- ---- a step keeps to the grammar
 
 -- what a builder has after a step holds one piece more, or the token is refused
-abbrev pub Stepped : List Piece → Extent → Token → List Opening → Result Builder Found → Type 0
+abbrev pub Stepped : List Piece → Extent → Token → List Opening → Result Builder PlacedFault → Type 0
 Stepped ps e t w (Ok b) = Holds (ps ++ piece t e) b
 Stepped ps e t w (Err x) = Refused t e w x.0 x.1
 
 -- a datum that a token ends, as a step
-given_stepped : (ps : List Piece) (e : Extent) (t : Token) (w : List Opening) (W : Place → Type 0) (r : Result Builder Found) → GivenBy (ps ++ piece t e) W r → ((k : FaultKind) (p : Place) → k ≡ BadToken → W p → Refused t e w k p) → Stepped ps e t w r
+given_stepped : (ps : List Piece) (e : Extent) (t : Token) (w : List Opening) (W : Place → Type 0) (r : Result Builder PlacedFault) → GivenBy (ps ++ piece t e) W r → ((k : FaultKind) (p : Place) → k ≡ BadToken → W p → Refused t e w k p) → Stepped ps e t w r
 given_stepped ps e t w W (Ok b) h f = h
 given_stepped ps e t w W (Err x) h f = f x.0 x.1 h.0 h.1
 
@@ -213,14 +213,30 @@ begin_datum_holds o t e ps whole w at fits refused b =
     (λ yes. let can : admits w ≡ true = sym (admits_same w) ∙ yes in begin_holds o t e ps whole w at (λ lt. fits lt can) (λ k p h. refused k p (inr (can, h))) b)
     (λ no. refused BadDot e.from (inl (sym (admits_same w) ∙ no, refl, refl)))
 
--- a datum of one token
-atom_holds : (form : _) (e : Extent) (ps : List Piece) (whole : List Tree) (w : List Opening) → Begun ps whole w → Stepped ps e (token.Atom form) w (put_atom e.from (made.datum e.from e.to.byte form) (builder_of whole w))
-atom_holds form e ps whole w b =
+-- where a datum that is let through is not admitted, it is let through and not admitted outside
+refused_kept : (k can : Bool) → cond k can true ≡ false → (k ≡ true) × (can ≡ false)
+refused_kept true can e = (refl, e)
+refused_kept false can e = absurd (false≢true (sym e))
+
+-- a second datum behind a dot is refused where it begins
+pub second_put : (d : Datum) (w : List Opening) (done : List Datum) → admits w ≡ false → put d (map frame_of w) done ≡ Err (BadDot, made.start_of d)
+second_put d [] done e = absurd (false≢true (sym e))
+second_put d (list_of kind o ts ∷ w) done e = absurd (false≢true (sym e))
+second_put d (dot_of o ts q us ∷ w) done e = absurd (false≢true (sym e))
+second_put d (tail_of o ts q us t vs ∷ w) done e = refl
+second_put d (mark_of kind q us ∷ w) done e = absurd (false≢true (sym e))
+second_put d (feature_of q plus us ∷ w) done e = absurd (false≢true (sym e))
+second_put d (chosen_of q plus us t vs ∷ w) done e =
+    let h = refused_kept (kept plus (yields t)) (admits w) e in rw h.0 (second_put d w done h.1)
+
+-- a datum of one token, by whether it is admitted
+atom_holds : (form : Form) (e : Extent) (ps : List Piece) (whole : List Tree) (w : List Opening) → Begun ps whole w → (can : Bool) → admits w ≡ can
+    → Stepped ps e (token.Atom form) w (put (made.datum e.from e.to.byte form) (map frame_of w) (flat_map yields whole))
+atom_holds form e ps whole w b true can =
     let d = made.datum e.from e.to.byte form in
-    cond_both (machine.admits (map frame_of w)) _ _ (Stepped ps e (token.Atom form) w)
-    (λ can. given_stepped ps e (token.Atom form) w (λ p. EndsWrong d w p) _
-    (give_one w (atom e form) whole (ps ++ piece (token.Atom form) e) d tt refl (sym (admits_same w) ∙ can) b.whole_fit b.begun_fit (behind ps whole w (atom e form) b.are)) (λ k p is wrong. inr (is, wrong)))
-    (λ no. inl (sym (admits_same w) ∙ no, refl, refl))
+    given_stepped ps e (token.Atom form) w (λ p. EndsWrong d w p) _
+    (give_one w (atom e form) whole (ps ++ piece (token.Atom form) e) d tt refl can b.whole_fit b.begun_fit (behind ps whole w (atom e form) b.are)) (λ k p is wrong. inr (is, wrong))
+atom_holds form e ps whole w b false can = rw (second_put (made.datum e.from e.to.byte form) w (flat_map yields whole) can) (inl (can, refl, refl))
 
 -- a closing bracket behind what is begun
 closed : (ps : List Piece) (whole : List Tree) (w : List Opening) (o : Opening) (u : Tree) (e : Extent) → ps ≡ flat_map tree_pieces whole ++ begun_pieces (o ∷ w) → opening_pieces o ++ piece token.Close e ≡ tree_pieces u → Behind (ps ++ piece token.Close e) whole w u
@@ -304,5 +320,5 @@ step_holds token.Close e ps whole w b = close_holds e ps whole w b
 step_holds token.Dot e ps whole w b = dot_holds e ps whole w b
 step_holds (token.Mark kind) e ps whole w b = begin_datum_holds (mark_of kind e []) (token.Mark kind) e ps whole w refl (λ lt can. (lt, can, (tt, refl))) (λ k p h. h) b
 step_holds (token.Feature plus) e ps whole w b = begin_holds (feature_of e plus []) (token.Feature plus) e ps whole w refl (λ lt. (lt, (tt, refl))) (λ k p h. h) b
-step_holds (token.Atom form) e ps whole w b = atom_holds form e ps whole w b
+step_holds (token.Atom form) e ps whole w b = atom_holds form e ps whole w b (admits w) refl
 step_holds (token.Bad kind) e ps whole w b = (refl, refl)

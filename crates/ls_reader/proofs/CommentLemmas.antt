@@ -5,7 +5,8 @@ use Rattle.std.proofs.lemmas.List.{append-nil, take_at, take_all}
 use Rattle.std.proofs.lemmas.List.Concat.{flat_map-append}
 use Rattle.ls_reader.specs.declared.fault.FaultKind.{FaultKind}
 use Rattle.ls_reader.specs.declared.fault.FaultKind.TheVariants.{Unclosed}
-use Rattle.ls_reader.specs.Comments.{CommentPart, opens, closes, other, part_text, comment_text, ComesFirst, IsApart, ArePicked, IsBalanced, StayWithin, AreUnended, IsUnended, is_pair, passed, closed, comment}
+use Rattle.ls_reader.specs.Comments.{CommentPart, opens, closes, other, part_text, comment_text, ComesFirst, IsApart, ArePicked, IsBalanced, StayWithin, AreUnended, IsUnended}
+use Rattle.ls_reader.specs.steps.Delimited.{is_pair, passed, closed, comment}
 
 -- ---- for the code's loop
 

@@ -17,26 +17,27 @@ use Rattle.ls_reader.specs.declared.token.Token.{Token}
 use Rattle.ls_reader.specs.declared.token.Token.TheVariants as token
 use Rattle.ls_reader.specs.declared.token.Bracket.TheVariants as bracket
 use Rattle.ls_reader.specs.declared.token.Mark.TheVariants as mark
-use Rattle.ls_reader.specs.declared.word.Role.{Role}
-use Rattle.ls_reader.specs.declared.word.Role.TheVariants as role
+use Rattle.ls_reader.specs.declared.interpret.Role.{Role}
+use Rattle.ls_reader.specs.declared.interpret.Role.TheVariants as role
 use Rattle.ls_reader.specs.Characters.{is_blank, is_terminating, is_constituent, is_digit, is_not_newline, goes_on, begins_token, syntax_of}
 use Rattle.ls_reader.specs.CharNames.{character}
-use Rattle.ls_reader.specs.Comments.{CommentPart, closes, part_text, comment_text, comment}
-use Rattle.ls_reader.specs.Macros.{sign_token, is_splice, construct_of, numbered_construct, plain_construct, is_not_kept}
-use Rattle.ls_reader.specs.Strings.{inners_text, content}
-use Rattle.ls_reader.specs.Tokens.{Part, constituent, single, barred, parts_text, signs_of, word}
-use Rattle.ls_reader.specs.Lexing.{Fault, word_at, as_string, as_gap, character_at, construct_at, behind_count, sharpsign, comma, other_macro, macro_at, lexeme_by, lexeme}
-use Rattle.ls_reader.specs.Lexemes.{Ends, Are, IsRun, IsToken, is_counted, Written, blanks, line, nested, sign, lone_comma, splice, string, free, alone, cut, character_of, behind, written, token_of, StandsBefore, IsLexeme, is_invalid, begins_invalid, begins_comment, IsStuck, invalid, in_comment, elsewhere}
+use Rattle.ls_reader.specs.Comments.{CommentPart, closes, part_text, comment_text}
+use Rattle.ls_reader.specs.Macros.{macro_token, is_splice, construct_of, numbered_construct, plain_construct, is_not_kept}
+use Rattle.ls_reader.specs.Strings.{inners_text}
+use Rattle.ls_reader.specs.steps.Delimited.{content, comment}
+use Rattle.ls_reader.specs.Tokens.{Part, constituent, single, barred, parts_text, chars_of, interpretation}
+use Rattle.ls_reader.specs.steps.Lexing.{LocalFault, token_at, as_string, as_gap, character_at, construct_at, behind_count, sharpsign, comma, other_macro, macro_at, lexeme_by, lexeme}
+use Rattle.ls_reader.specs.Lexemes.{Ends, Are, IsRun, IsToken, is_counted, Written, blanks, line, nested, macro_char, lone_comma, splice, string, free, alone, cut, character_of, behind, written, token_of, StandsBefore, IsLexeme, is_invalid, begins_invalid, begins_comment, IsStuck, invalid, in_comment, elsewhere}
 use Rattle.ls_reader.specs.Faults.{NoLexeme}
 use Rattle.ls_reader.proofs.CommentLemmas.{Reads, found, comment_sound, comment_again, unended_again}
 use Rattle.ls_reader.proofs.StringLemmas as strings
-use Rattle.ls_reader.proofs.WordLemmas as words
+use Rattle.ls_reader.proofs.TokenLemmas as token_laws
 use Rattle.ls_reader.proofs.SyntaxLemmas.{run_is, run_len-is, run_within, taken_length, whitespace_is, terminating_is, sharp_is, single_is, multiple_is, constituent_is, constituent_no_sharp, blank_is}
 
 -- ---- what the function finds is a lexeme
 
 -- what was found at the front of the characters is a lexeme there, or none begins there
-abbrev pub Sound : List ℕ → Result (Token × List ℕ) Fault → Type 0
+abbrev pub Sound : List ℕ → Result (Token × List ℕ) LocalFault → Type 0
 Sound cs (Ok x) = (text : List ℕ) × IsLexeme x.0 text x.1 × (cs ≡ text ++ x.1)
 Sound cs (Err x) = (before : List ℕ) × IsStuck cs x.0 before × (take x.1 cs ≡ before) × (x.1 ≤ length cs)
 
@@ -54,12 +55,12 @@ no_comment c [] n = refl
 no_comment c (d ∷ ds) n = and_left (eqb c 35) _ (ne_eqb c 35 n)
 
 -- a token, by its parts
-free_by : (ps : List Part) (c : ℕ) (cs rest : List ℕ) (t : Token) → begins_token (c ∷ cs) ≡ true → IsToken ps rest → c ∷ cs ≡ parts_text ps ++ rest → t ≡ word role.Free (signs_of ps) → Sound (c ∷ cs) (Ok (t, rest))
+free_by : (ps : List Part) (c : ℕ) (cs rest : List ℕ) (t : Token) → begins_token (c ∷ cs) ≡ true → IsToken ps rest → c ∷ cs ≡ parts_text ps ++ rest → t ≡ interpretation role.Free (chars_of ps) → Sound (c ∷ cs) (Ok (t, rest))
 free_by [] c cs rest t b h e is = absurd (false≢true (sym (subst (λ (x : List ℕ). begins_token x ≡ false) (sym e) h) ∙ b))
 free_by (p ∷ ps) c cs rest t b h e is = (parts_text (p ∷ ps), (free (p ∷ ps), ((λ q. cc), h), is, refl), e)
 
 -- a token
-free_sound : (c : ℕ) (cs : List ℕ) (r : Result (Token × List ℕ) Fault) → goes_on c ≡ true → c ≢ 35 → is_invalid (syntax_of c) ≡ false → words.TokenReads role.Free (c ∷ cs) r → Sound (c ∷ cs) r
+free_sound : (c : ℕ) (cs : List ℕ) (r : Result (Token × List ℕ) LocalFault) → goes_on c ≡ true → c ≢ 35 → is_invalid (syntax_of c) ≡ false → token_laws.TokenReads role.Free (c ∷ cs) r → Sound (c ∷ cs) r
 free_sound c cs (Ok x) g n i h = free_by h.0 c cs x.1 x.0 (rw (g, ne_eqb c 35 n) refl) h.1 h.2 h.3
 free_sound c cs (Err x) g n i h = stuck (c ∷ cs) x.0 x.1 i (no_comment c cs n) h.0 h.1
 
@@ -93,37 +94,37 @@ other_sound c cs q =
     (λ f. subst (λ (k : ℕ). Sound (k ∷ cs) (as_string (content false cs))) (sym (q e f)) (string_sound cs (content false cs) (strings.content_reads false cs))))
 
 -- a terminating macro character
-macro_sound : (c : ℕ) (cs : List ℕ) → is_terminating c ≡ true → Sound (c ∷ cs) (macro_at (sign_token c) c cs)
+macro_sound : (c : ℕ) (cs : List ℕ) → is_terminating c ≡ true → Sound (c ∷ cs) (macro_at (macro_token c) c cs)
 macro_sound c cs t =
-    cond_both (eqb c 40) _ _ (λ o. Sound (c ∷ cs) (macro_at o c cs)) (λ e. stands (sign c (token.Open bracket.Round)) (c ∷ cs) cs (rw e refl) refl) (λ a.
-    cond_both (eqb c 41) _ _ (λ o. Sound (c ∷ cs) (macro_at o c cs)) (λ e. stands (sign c token.Close) (c ∷ cs) cs (rw (a, e) refl) refl) (λ b.
-    cond_both (eqb c 39) _ _ (λ o. Sound (c ∷ cs) (macro_at o c cs)) (λ e. stands (sign c (token.Mark mark.Quote)) (c ∷ cs) cs (rw (a, b, e) refl) refl) (λ d.
-    cond_both (eqb c 96) _ _ (λ o. Sound (c ∷ cs) (macro_at o c cs)) (λ e. stands (sign c (token.Mark mark.Back)) (c ∷ cs) cs (rw (a, b, d, e) refl) refl)
+    cond_both (eqb c 40) _ _ (λ o. Sound (c ∷ cs) (macro_at o c cs)) (λ e. stands (macro_char c (token.Open bracket.Round)) (c ∷ cs) cs (rw e refl) refl) (λ a.
+    cond_both (eqb c 41) _ _ (λ o. Sound (c ∷ cs) (macro_at o c cs)) (λ e. stands (macro_char c token.Close) (c ∷ cs) cs (rw (a, e) refl) refl) (λ b.
+    cond_both (eqb c 39) _ _ (λ o. Sound (c ∷ cs) (macro_at o c cs)) (λ e. stands (macro_char c (token.Mark mark.Quote)) (c ∷ cs) cs (rw (a, b, e) refl) refl) (λ d.
+    cond_both (eqb c 96) _ _ (λ o. Sound (c ∷ cs) (macro_at o c cs)) (λ e. stands (macro_char c (token.Mark mark.Back)) (c ∷ cs) cs (rw (a, b, d, e) refl) refl)
     (λ f. other_sound c cs (last_macro c t a b d f)))))
 
 -- ---- constructs behind `#`
 
 -- by the construct of a character
-by_construct : (P : Construct → Type 0) (c : ℕ) → ((t : Token) → P (construct_type.Alone t)) → ((r : Role) → P (construct_type.Word r)) → (c ≡ 124 → P construct_type.Comment) → (c ≡ 92 → P construct_type.Character) → P (plain_construct c)
-by_construct P c is_alone is_word is_comment is_character =
+by_construct : (P : Construct → Type 0) (c : ℕ) → ((t : Token) → P (construct_type.Alone t)) → ((r : Role) → P (construct_type.Behind r)) → (c ≡ 124 → P construct_type.Comment) → (c ≡ 92 → P construct_type.Character) → P (plain_construct c)
+by_construct P c is_alone is_token is_comment is_character =
     cond_both (eqb c 40) _ _ P (λ _. is_alone _) (λ _.
-    cond_both (eqb c 42) _ _ P (λ _. is_word _) (λ _.
+    cond_both (eqb c 42) _ _ P (λ _. is_token _) (λ _.
     cond_both (is_not_kept c) _ _ P (λ _. is_alone _) (λ _.
     cond_both (eqb c 124) _ _ P (λ e. is_comment (eqb-true c 124 e)) (λ _.
     cond_both (eqb c 92) _ _ P (λ e. is_character (eqb-true c 92 e)) (λ _.
     cond_both (eqb c 39) _ _ P (λ _. is_alone _) (λ _.
     cond_both (eqb c 43) _ _ P (λ _. is_alone _) (λ _.
     cond_both (eqb c 45) _ _ P (λ _. is_alone _) (λ _.
-    cond_both (eqb c 58) _ _ P (λ _. is_word _) (λ _.
-    cond_both (eqb c 98 || eqb c 66) _ _ P (λ _. is_word _) (λ _.
-    cond_both (eqb c 111 || eqb c 79) _ _ P (λ _. is_word _) (λ _.
-    cond_both (eqb c 120 || eqb c 88) _ _ P (λ _. is_word _) (λ _. is_alone _))))))))))))
+    cond_both (eqb c 58) _ _ P (λ _. is_token _) (λ _.
+    cond_both (eqb c 98 || eqb c 66) _ _ P (λ _. is_token _) (λ _.
+    cond_both (eqb c 111 || eqb c 79) _ _ P (λ _. is_token _) (λ _.
+    cond_both (eqb c 120 || eqb c 88) _ _ P (λ _. is_token _) (λ _. is_alone _))))))))))))
 
 -- the same behind digits
-by_numbered : (P : Construct → Type 0) (c : ℕ) → ((t : Token) → P (construct_type.Alone t)) → ((r : Role) → P (construct_type.Word r)) → P (numbered_construct c)
-by_numbered P c is_alone is_word =
+by_numbered : (P : Construct → Type 0) (c : ℕ) → ((t : Token) → P (construct_type.Alone t)) → ((r : Role) → P (construct_type.Behind r)) → P (numbered_construct c)
+by_numbered P c is_alone is_token =
     cond_both (eqb c 40) _ _ P (λ _. is_alone _) (λ _.
-    cond_both (eqb c 42) _ _ P (λ _. is_word _) (λ _.
+    cond_both (eqb c 42) _ _ P (λ _. is_token _) (λ _.
     cond_both (is_not_kept c) _ _ P (λ _. is_alone _) (λ _.
     cond_both (eqb c 61 || eqb c 35) _ _ P (λ _. is_alone _) (λ _. is_alone _))))
 
@@ -149,23 +150,23 @@ digit_not_bar : (d : ℕ) → is_digit d ≡ true → d ≢ 124
 digit_not_bar d e f = false≢true (sym (ap is_digit f) ∙ e)
 
 -- whether a construct is a token directly behind its character
-abbrev is_word_type : Construct → Bool
-is_word_type (construct_type.Word r) = true
-is_word_type _ = false
+abbrev is_token_type : Construct → Bool
+is_token_type (construct_type.Behind r) = true
+is_token_type _ = false
 
 -- a comment is no token
-comment_no_word : (r : Role) → construct_type.Comment ≡ construct_type.Word r → ⊥
-comment_no_word r e = let both : false ≡ true = ap is_word_type e in false≢true both
+comment_no_token : (r : Role) → construct_type.Comment ≡ construct_type.Behind r → ⊥
+comment_no_token r e = let both : false ≡ true = ap is_token_type e in false≢true both
 
 -- a bar begins no token directly behind `#`
-word_not_bar : (c : ℕ) (r : Role) → construct_of false c ≡ construct_type.Word r → c ≢ 124
+token_not_bar : (c : ℕ) (r : Role) → construct_of false c ≡ construct_type.Behind r → c ≢ 124
 unfolding construct_of
-word_not_bar c r e f = let both : construct_type.Comment ≡ construct_type.Word r = sym (ap plain_construct f) ∙ e in comment_no_word r both
+token_not_bar c r e f = let both : construct_type.Comment ≡ construct_type.Behind r = sym (ap plain_construct f) ∙ e in comment_no_token r both
 
 -- what stands behind `#`, digits and the character of a token is no comment
-word_no_comment : (digits : List ℕ) (c : ℕ) (cs : List ℕ) (r : Role) → Are is_digit digits → construct_of (is_counted digits) c ≡ construct_type.Word r → begins_comment (35 ∷ (digits ++ c ∷ cs)) ≡ false
-word_no_comment [] c cs r h e = ne_eqb c 124 (word_not_bar c r e)
-word_no_comment (d ∷ ds) c cs r h e = ne_eqb d 124 (digit_not_bar d h.0)
+token_no_comment : (digits : List ℕ) (c : ℕ) (cs : List ℕ) (r : Role) → Are is_digit digits → construct_of (is_counted digits) c ≡ construct_type.Behind r → begins_comment (35 ∷ (digits ++ c ∷ cs)) ≡ false
+token_no_comment [] c cs r h e = ne_eqb c 124 (token_not_bar c r e)
+token_no_comment (d ∷ ds) c cs r h e = ne_eqb d 124 (digit_not_bar d h.0)
 
 -- `#` is not invalid
 begins_sharp : (cs : List ℕ) → begins_invalid (35 ∷ cs) ≡ false
@@ -173,14 +174,14 @@ unfolding syntax_of
 begins_sharp cs = refl
 
 -- a token directly behind its character
-word_sound : (digits : List ℕ) (c : ℕ) (cs : List ℕ) (reads : Role) (r : Result (Token × List ℕ) Fault) → Are is_digit digits → is_digit c ≡ false → construct_of (is_counted digits) c ≡ construct_type.Word reads
-    → words.TokenReads reads cs r → Sound (35 ∷ (digits ++ c ∷ cs)) r
-word_sound digits c cs reads (Ok x) h d e w = (
+token_sound : (digits : List ℕ) (c : ℕ) (cs : List ℕ) (reads : Role) (r : Result (Token × List ℕ) LocalFault) → Are is_digit digits → is_digit c ≡ false → construct_of (is_counted digits) c ≡ construct_type.Behind reads
+    → token_laws.TokenReads reads cs r → Sound (35 ∷ (digits ++ c ∷ cs)) r
+token_sound digits c cs reads (Ok x) h d e w = (
   written (behind digits c reads w.0),
   (behind digits c reads w.0, (h, d, e, w.1), w.3, refl),
   ap (λ (y : List ℕ). 35 ∷ (digits ++ c ∷ y)) w.2 ∙ ap (λ (y : List ℕ). 35 ∷ y) (sym (append_assoc digits (c ∷ parts_text w.0) x.1)),
 )
-word_sound digits c cs reads (Err x) h d e w = stuck (35 ∷ (digits ++ c ∷ cs)) x.0 x.1 (begins_sharp (digits ++ c ∷ cs)) (word_no_comment digits c cs reads h e) w.0 w.1
+token_sound digits c cs reads (Err x) h d e w = stuck (35 ∷ (digits ++ c ∷ cs)) x.0 x.1 (begins_sharp (digits ++ c ∷ cs)) (token_no_comment digits c cs reads h e) w.0 w.1
 
 -- how a nested comment is written
 nested_text : (ms : List CommentPart) → comment_text (ms ++ closes ∷ []) ≡ comment_text ms ++ 124 ∷ 35 ∷ []
@@ -206,7 +207,7 @@ character_sound (c ∷ cs) =
 construct_sound : (k : Construct) (digits : List ℕ) (c : ℕ) (cs : List ℕ) → Are is_digit digits → is_digit c ≡ false → construct_of (is_counted digits) c ≡ k → Sound (35 ∷ (digits ++ c ∷ cs)) (construct_at k cs)
 construct_sound (construct_type.Alone t) digits c cs h d e =
     stands (alone digits c t) (35 ∷ (digits ++ c ∷ cs)) cs (h, d, e) (ap (λ (x : List ℕ). 35 ∷ x) (sym (append_assoc digits (c ∷ []) cs)))
-construct_sound (construct_type.Word reads) digits c cs h d e = word_sound digits c cs reads _ h d e (words.behind_sound reads cs)
+construct_sound (construct_type.Behind reads) digits c cs h d e = token_sound digits c cs reads _ h d e (token_laws.behind_sound reads cs)
 construct_sound construct_type.Comment digits c cs h d e =
     let is = comment_is (is_counted digits) c e in
     subst (λ (x : List ℕ). Sound (35 ∷ (x ++ c ∷ cs)) (as_gap (comment 0 [] 2 None cs))) (sym (not_counted digits is.0))
@@ -239,13 +240,13 @@ by_type syntax_type.Whitespace c cs e =
 by_type syntax_type.Invalid c cs e = ([], invalid (rw e refl) refl refl, refl, omega arith)
 by_type syntax_type.Terminating c cs e = macro_sound c cs (terminating_is c e)
 by_type syntax_type.Sharp c cs e = subst (λ (k : ℕ). Sound (k ∷ cs) (sharpsign cs)) (sym (sharp_is c e)) (sharp_sound cs)
-by_type syntax_type.Constituent c cs e = free_sound c cs _ (rw e refl) (constituent_no_sharp c e) (rw e refl) (words.word_sound role.Free (c ∷ cs) (constituent_no_sharp c e))
+by_type syntax_type.Constituent c cs e = free_sound c cs _ (rw e refl) (constituent_no_sharp c e) (rw e refl) (token_laws.token_sound role.Free (c ∷ cs) (constituent_no_sharp c e))
 by_type syntax_type.SingleEscape c cs e =
     let n : c ≢ 35 = λ f. absurd (omega (arith, f, single_is c e)) in
-    free_sound c cs _ (or_right (is_constituent c) _ (or_left (eqb c 92) _ (eq-eqb c 92 (single_is c e)))) n (rw e refl) (words.word_sound role.Free (c ∷ cs) n)
+    free_sound c cs _ (or_right (is_constituent c) _ (or_left (eqb c 92) _ (eq-eqb c 92 (single_is c e)))) n (rw e refl) (token_laws.token_sound role.Free (c ∷ cs) n)
 by_type syntax_type.MultipleEscape c cs e =
     let n : c ≢ 35 = λ f. absurd (omega (arith, f, multiple_is c e)) in
-    free_sound c cs _ (or_right (is_constituent c) _ (or_right (eqb c 92) _ (eq-eqb c 124 (multiple_is c e)))) n (rw e refl) (words.word_sound role.Free (c ∷ cs) n)
+    free_sound c cs _ (or_right (is_constituent c) _ (or_right (eqb c 92) _ (eq-eqb c 124 (multiple_is c e)))) n (rw e refl) (token_laws.token_sound role.Free (c ∷ cs) n)
 
 -- what is found is a lexeme, or a fault where none begins
 pub lexeme_sound : (cs : List ℕ) → Sound cs (lexeme cs)
@@ -260,9 +261,9 @@ run_again : (p : ℕ → Bool) (text rest : List ℕ) → IsRun p text rest → 
 run_again p text rest h = rw (run_len-is p text rest h) (drop_at text rest (length text) refl)
 
 -- brackets, the quote and the backquote end the token before them
-sign_terminates : (c : ℕ) (t : Token) → sign_token c ≡ Some t → syntax_of c ≡ syntax_type.Terminating
+macro_terminates : (c : ℕ) (t : Token) → macro_token c ≡ Some t → syntax_of c ≡ syntax_type.Terminating
 unfolding syntax_of
-sign_terminates c t =
+macro_terminates c t =
     cond_both (eqb c 40) _ _ (λ o. o ≡ Some t → syntax_of c ≡ syntax_type.Terminating) (λ e _. ap syntax_of (eqb-true c 40 e)) (λ _.
     cond_both (eqb c 41) _ _ (λ o. o ≡ Some t → syntax_of c ≡ syntax_type.Terminating) (λ e _. ap syntax_of (eqb-true c 41 e)) (λ _.
     cond_both (eqb c 39) _ _ (λ o. o ≡ Some t → syntax_of c ≡ syntax_type.Terminating) (λ e _. ap syntax_of (eqb-true c 39 e)) (λ _.
@@ -284,7 +285,7 @@ comma_again [] e = refl
 comma_again (c ∷ cs) e = rw e refl
 
 -- a token is looked for where one begins
-free_again : (p : Part) (ps : List Part) (more : List ℕ) → IsToken (p ∷ ps) more → lexeme (parts_text (p ∷ ps) ++ more) ≡ word_at role.Free (parts_text (p ∷ ps) ++ more)
+free_again : (p : Part) (ps : List Part) (more : List ℕ) → IsToken (p ∷ ps) more → lexeme (parts_text (p ∷ ps) ++ more) ≡ token_at role.Free (parts_text (p ∷ ps) ++ more)
 unfolding lexeme syntax_of
 free_again (constituent c) ps more h = rw (constituent_is c h.1.0 h.0) refl
 free_again (single c) ps more h = refl
@@ -303,19 +304,19 @@ again (line cs) more s = rw (run_again is_not_newline cs more s) refl
 again (nested ms) more s =
     sharp_again [] 124 ((comment_text ms ++ 124 ∷ 35 ∷ []) ++ more) tt refl
     ∙ ap as_gap (ap (λ (x : List ℕ). comment 0 [] 2 None (x ++ more)) (sym (nested_text ms)) ∙ comment_again ms 0 [] 2 None more s.0 s.1 tt)
-again (sign c t) more s = rw (sign_terminates c t s, s) refl
+again (macro_char c t) more s = rw (macro_terminates c t s, s) refl
 again lone_comma more s = ap (λ x. Ok x) (comma_again more s)
 again (splice c) more s = rw s refl
 again (string is) more s = ap as_string (ap (content false) (append_assoc (inners_text is) (34 ∷ []) more) ∙ strings.content_again is more s)
 again (free []) more s = absurd (s.0 refl)
-again (free (p ∷ ps)) more s = free_again p ps more s.1 ∙ words.word_again role.Free p ps more s.1
+again (free (p ∷ ps)) more s = free_again p ps more s.1 ∙ token_laws.token_again role.Free p ps more s.1
 again (alone digits c t) more s =
     ap (λ (x : List ℕ). lexeme (35 ∷ x)) (append_assoc digits (c ∷ []) more) ∙ sharp_again digits c more s.0 s.1 ∙ ap (λ (k : Construct). construct_at k more) s.2
 again (cut digits) more s = subst (λ (x : List ℕ). lexeme (35 ∷ (digits ++ x)) ≡ Ok (token.Bad BadToken, x)) (sym s.1) (cut_again digits s.0)
 again (character_of c cs) more s = sharp_again [] 92 (c ∷ (cs ++ more)) tt refl ∙ character_again c cs more s
 again (behind digits c reads ps) more s =
     ap (λ (x : List ℕ). lexeme (35 ∷ x)) (append_assoc digits (c ∷ parts_text ps) more) ∙ sharp_again digits c (parts_text ps ++ more) s.0 s.1
-    ∙ ap (λ (k : Construct). construct_at k (parts_text ps ++ more)) s.2 ∙ words.behind_again reads ps more s.3
+    ∙ ap (λ (k : Construct). construct_at k (parts_text ps ++ more)) s.2 ∙ token_laws.behind_again reads ps more s.3
 
 -- a lexeme is found
 pub lexeme_again : (t : Token) (text more : List ℕ) → IsLexeme t text more → lexeme (text ++ more) ≡ Ok (t, more)
@@ -334,7 +335,7 @@ some_written (blanks []) more s = absurd (s.0 refl)
 some_written (blanks (c ∷ cs)) more s = omega arith
 some_written (line cs) more s = omega arith
 some_written (nested ms) more s = omega arith
-some_written (sign c t) more s = omega arith
+some_written (macro_char c t) more s = omega arith
 some_written lone_comma more s = omega arith
 some_written (splice c) more s = omega arith
 some_written (string is) more s = omega arith
@@ -350,9 +351,9 @@ pub some_text : (t : Token) (text more : List ℕ) → IsLexeme t text more → 
 some_text t text more h = rw h.3 (some_written h.0 more h.1)
 
 -- an answer is one of the two
-ok_or_err : (r : Result (Token × List ℕ) Fault) (x : Token × List ℕ) (k : Fault) → r ≡ Ok x → r ≡ Err k → ⊥
+ok_or_err : (r : Result (Token × List ℕ) LocalFault) (x : Token × List ℕ) (k : LocalFault) → r ≡ Ok x → r ≡ Err k → ⊥
 ok_or_err r x k e d = cc
 
 -- where nothing is found no lexeme begins
-pub no_lexeme : (cs : List ℕ) (x : Fault) → lexeme cs ≡ Err x → NoLexeme cs
+pub no_lexeme : (cs : List ℕ) (x : LocalFault) → lexeme cs ≡ Err x → NoLexeme cs
 no_lexeme cs x e t text more is at = ok_or_err (lexeme cs) (t, more) x (ap lexeme at ∙ lexeme_again t text more is) e

@@ -1,13 +1,14 @@
 pub mod StackLemmas
 pub mod NumberLemmas
-pub mod CommentLemmas
 pub mod NameLemmas
+pub mod FrontLemmas
 pub mod StringLemmas
-pub mod WordLemmas
+pub mod CommentLemmas
+pub mod TokenLemmas
 pub mod SyntaxLemmas
 pub mod LexemeLemmas
-pub mod TreeLemmas
 pub mod StuckLemmas
+pub mod TreeLemmas
 pub mod BuilderLemmas
 pub mod TurnLemmas
 pub mod RunLemmas

@@ -3,8 +3,8 @@ use Rattle.std.specs.List.{prefix_len}
 use Rattle.std.proofs.Common.{◌≡◌, ℕ, List, [], ◌∷◌, length, map, refl, ap, arith}
 use Rattle.std.specs.Char.{to_ascii_uppercase}
 use Rattle.std.proofs.lemmas.List.{take_all, drop_all, length-map}
-use Rattle.ls_reader.specs.declared.sign.Sign.{Sign}
-use Rattle.ls_reader.specs.declared.sign.Sign.TheVariants.{Plain}
+use Rattle.ls_reader.specs.declared.token_char.TokenChar.{TokenChar}
+use Rattle.ls_reader.specs.declared.token_char.TokenChar.TheVariants.{Plain}
 use Rattle.ls_reader.specs.Names.{name_of, is_no_colon, marker_at, common_lisp, symbol_token}
 
 -- markers are colons
@@ -20,6 +20,6 @@ name_of-plain (c ∷ cs) = ap (λ (x : List ℕ). to_ascii_uppercase c ∷ x) (n
 -- a text without colons is a symbol of COMMON-LISP
 pub plain_symbol_is : (text : List ℕ) → prefix_len is_no_colon text ≡ length text → symbol_token (map Plain text) ≡ common_lisp (map to_ascii_uppercase text)
 plain_symbol_is text e =
-    let signs : List Sign = map Plain text in
-    let n : marker_at signs ≡ length signs = omega (arith, marker_at-plain text, e, length-map text (λ (c : ℕ). Plain c)) in
-    rw (n, take_all (length signs) signs (omega arith), drop_all (length signs) signs (omega arith), name_of-plain text) refl
+    let chars : List TokenChar = map Plain text in
+    let n : marker_at chars ≡ length chars = omega (arith, marker_at-plain text, e, length-map text (λ (c : ℕ). Plain c)) in
+    rw (n, take_all (length chars) chars (omega arith), drop_all (length chars) chars (omega arith), name_of-plain text) refl

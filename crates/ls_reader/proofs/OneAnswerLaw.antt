@@ -7,13 +7,13 @@ use Rattle.ls_reader.specs.declared.fault.FaultKind.{FaultKind}
 use Rattle.ls_reader.specs.declared.fault.FaultKind.TheVariants.{Unclosed}
 use Rattle.ls_reader.specs.declared.token.Token.{Token}
 use Rattle.ls_reader.specs.Places.{start, after_all}
-use Rattle.ls_reader.specs.Lexing.{lexeme}
-use Rattle.ls_reader.specs.Machine.{step, finish, nothing, Found}
+use Rattle.ls_reader.specs.steps.Lexing.{lexeme}
+use Rattle.ls_reader.specs.steps.Building.{step, finish, nothing, PlacedFault}
 use Rattle.ls_reader.specs.Lexemes.{IsLexeme, Lexeme, Lexed, pieces, text_of}
 use Rattle.ls_reader.specs.Trees.{Tree, Opening, list_of, dot_of, tail_of, mark_of, feature_of, chosen_of, Begun}
 use Rattle.ls_reader.specs.Forms.{FormsIn}
 use Rattle.ls_reader.specs.Faults.{FaultNext, FaultIn}
-use Rattle.ls_reader.specs.Running.{Reading, stepped, advance}
+use Rattle.ls_reader.specs.steps.Running.{Reading, stepped, advance}
 use Rattle.ls_reader.proofs.LexemeLemmas.{lexeme_again, some_text}
 use Rattle.ls_reader.proofs.StuckLemmas.{stuck_again, stuck_front}
 use Rattle.ls_reader.proofs.TurnLemmas.{used_is, after_all-append, Stands, Turned, turned, stands_start, Finished, finished}
@@ -29,7 +29,7 @@ ended at (Ok ds) = Ok ds
 ended at (Err p) = Err (Unclosed, p)
 
 -- a turn, and those after it
-next : (Reading → Result (List Datum) (FaultKind × Place)) → Place → Result Reading Found → Result (List Datum) (FaultKind × Place)
+next : (Reading → Result (List Datum) (FaultKind × Place)) → Place → Result Reading PlacedFault → Result (List Datum) (FaultKind × Place)
 next f at (Ok r) = f r
 next f at (Err x) = Err x
 
@@ -45,14 +45,14 @@ advance_is at cs b t text after is e =
     let found : lexeme cs ≡ Ok (t, after) = ap lexeme e ∙ lexeme_again t text after is in
     rw (found, used_is cs text after e) refl
 
-abbrev err_builder : Found → Result Builder Found
+abbrev err_builder : PlacedFault → Result Builder PlacedFault
 err_builder k = Err k
 
-abbrev ok_builder : Builder → Result Builder Found
+abbrev ok_builder : Builder → Result Builder PlacedFault
 ok_builder b = Ok b
 
 -- an error is no success
-err_not_ok : (k : Found) (c : Builder) → err_builder k ≡ Ok c → ⊥
+err_not_ok : (k : PlacedFault) (c : Builder) → err_builder k ≡ Ok c → ⊥
 err_not_ok k c e = cc
 
 -- what succeeded with two builders succeeded with one
@@ -60,7 +60,7 @@ ok_is : (b c : Builder) → ok_builder b ≡ Ok c → b ≡ c
 ok_is b c e = cc
 
 -- where both steps succeeded the first did
-then_ok : (f : Builder → Result Builder Found) (r : Result Builder Found) (c : Builder) → then f r ≡ Ok c → (b : Builder) × (r ≡ Ok b) × (f b ≡ Ok c)
+then_ok : (f : Builder → Result Builder PlacedFault) (r : Result Builder PlacedFault) (c : Builder) → then f r ≡ Ok c → (b : Builder) × (r ≡ Ok b) × (f b ≡ Ok c)
 then_ok f (Ok b) c e = (b, refl, e)
 then_ok f (Err k) c e = absurd (err_not_ok k c e)
 
@@ -129,7 +129,7 @@ ended_settles cs at (Ok fs) h = h
 ended_settles cs at (Err p) h = h
 
 -- a turn comes to the first fault, or to what the turns after it come to
-next_settles : (cs : List ℕ) (n : ℕ) (at : Place) (r : Reading) (turn : Result Reading Found) → Turned cs r turn → 0 < length r.rest → length r.rest ≤ suc n
+next_settles : (cs : List ℕ) (n : ℕ) (at : Place) (r : Reading) (turn : Result Reading PlacedFault) → Turned cs r turn → 0 < length r.rest → length r.rest ≤ suc n
     → (f : Reading → Result (List Datum) (FaultKind × Place)) → ((s : Reading) → Stands cs s → length s.rest ≤ n → Settles cs (f s)) → Settles cs (next f at turn)
 unfolding next
 next_settles cs n at r (Ok s) h some few f settles = settles s h.0 (omega (arith, h.1, few))

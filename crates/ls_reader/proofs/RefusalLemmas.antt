@@ -11,11 +11,11 @@ use Rattle.ls_reader.specs.declared.fault.FaultKind.TheVariants.{BadToken}
 use Rattle.ls_reader.specs.declared.token.Token.{Token}
 use Rattle.ls_reader.specs.declared.token.Token.TheVariants as token
 use Rattle.ls_reader.specs.Data as made
-use Rattle.ls_reader.specs.Machine.{put, step, begin, begin_datum}
+use Rattle.ls_reader.specs.steps.Building.{put, step, begin, begin_datum}
 use Rattle.ls_reader.specs.Lexemes.{Extent}
 use Rattle.ls_reader.specs.Trees.{Tree, yields, Opening, list_of, dot_of, tail_of, mark_of, feature_of, chosen_of, admits}
 use Rattle.ls_reader.specs.Faults.{Second, TooMany, TooDeepDatum, EndsWrong, OutOfForm, Refused}
-use Rattle.ls_reader.proofs.BuilderLemmas.{only, builder_of, frame_of, admits_same}
+use Rattle.ls_reader.proofs.BuilderLemmas.{only, builder_of, frame_of, admits_same, second_put}
 
 -- a construct that is too deep
 begin_refused : (e : Extent) (f : Frame) (whole : List Tree) (w : List Opening) (k : FaultKind) (p : Place) → TooMany e w k p → begin e.from f (builder_of whole w) ≡ Err (k, p)
@@ -40,16 +40,6 @@ wrong_again d (chosen_of e plus us t vs ∷ w) p done h = rw h.0 (wrong_again d 
 out_again : (d : Datum) (w : List Opening) (k : FaultKind) (p : Place) (done : List Datum) → OutOfForm d w k p → put d (map frame_of w) done ≡ Err (k, p)
 out_again d w k p done h = rw h.0 (wrong_again d w p done h.1)
 
--- a datum that ends an expression out of form was no second one behind a dot
-wrong_admits : (d : Datum) (w : List Opening) (p : Place) → EndsWrong d w p → admits w ≡ true
-wrong_admits d [] p h = absurd h
-wrong_admits d (list_of kind o ts ∷ w) p h = absurd h
-wrong_admits d (dot_of o ts b us ∷ w) p h = absurd h
-wrong_admits d (tail_of o ts b us t vs ∷ w) p h = absurd h
-wrong_admits d (mark_of kind e us ∷ w) p h = refl
-wrong_admits d (feature_of e plus us ∷ w) p h = refl
-wrong_admits d (chosen_of e plus us t vs ∷ w) p h = rw h.0 (wrong_admits d w p h.1)
-
 -- a token that the grammar refuses
 pub refused_again : (t : Token) (w : List Opening) (e : Extent) (whole : List Tree) (k : FaultKind) (p : Place) → Refused t e w k p → step e.from e.to t (builder_of whole w) ≡ Err (k, p)
 refused_again token.Gap w e whole k p h = absurd h
@@ -70,8 +60,7 @@ refused_again token.Dot (tail_of o ts d us t vs ∷ w) e whole k p h = rw (h.0, 
 refused_again token.Dot (mark_of kind q us ∷ w) e whole k p h = rw (h.0, h.1) refl
 refused_again token.Dot (feature_of q plus us ∷ w) e whole k p h = rw (h.0, h.1) refl
 refused_again token.Dot (chosen_of q plus us t vs ∷ w) e whole k p h = rw (h.0, h.1) refl
-refused_again (token.Atom form) w e whole k p (inl h) = rw (admits_same w, h.0, h.1, h.2) refl
-refused_again (token.Atom form) w e whole k p (inr h) =
-    let d = made.datum e.from e.to.byte form in
-    rw (admits_same w, wrong_admits d w p h.1) (out_again d w k p (flat_map yields whole) h)
+refused_again (token.Atom form) w e whole k p (inl h) =
+    rw (second_put (made.datum e.from e.to.byte form) w (flat_map yields whole) h.0, h.1, h.2) refl
+refused_again (token.Atom form) w e whole k p (inr h) = out_again (made.datum e.from e.to.byte form) w k p (flat_map yields whole) h
 refused_again (token.Bad kind) w e whole k p h = rw (h.0, h.1) refl

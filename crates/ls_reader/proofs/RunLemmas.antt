@@ -14,8 +14,8 @@ use Rattle.ls_reader.specs.declared.token.Mark.{Mark}
 use Rattle.ls_reader.specs.declared.token.Token.{Token}
 use Rattle.ls_reader.specs.declared.token.Token.TheVariants as token
 use Rattle.ls_reader.specs.Data as made
-use Rattle.ls_reader.specs.Machine as machine
-use Rattle.ls_reader.specs.Machine.{put, step, begin, begin_datum, dot, finish, nothing, Found}
+use Rattle.ls_reader.specs.steps.Building as machine
+use Rattle.ls_reader.specs.steps.Building.{put, step, begin, begin_datum, dot, finish, nothing, PlacedFault}
 use Rattle.ls_reader.specs.Lexemes.{Extent, Piece, piece}
 use Rattle.ls_reader.specs.Trees.{Tree, atom, list, dotted, marked, feature, Trees, none, more, trees, tree_pieces, trees_pieces, kept, yields, data_of, IsOne, IsExpression, Fits, AllFit, Opening, list_of, dot_of, tail_of, mark_of, feature_of, chosen_of, opening_pieces, begun_pieces, StandForNone, OpeningFits, AreBegun, Begun}
 use Rattle.ls_reader.proofs.BuilderLemmas.{builder, give, only, builder_of, frame_of, admits_same}
@@ -24,12 +24,12 @@ use Rattle.ls_reader.proofs.TreeLemmas.{trees_pieces-trees, data_of-trees, AllFi
 -- ---- the steps of a list of pieces
 
 -- a step where the one before it succeeded
-abbrev pub then : (Builder → Result Builder Found) → Result Builder Found → Result Builder Found
+abbrev pub then : (Builder → Result Builder PlacedFault) → Result Builder PlacedFault → Result Builder PlacedFault
 then f (Ok b) = f b
 then f (Err x) = Err x
 
 -- one step for each piece
-abbrev pub run : List Piece → Builder → Result Builder Found
+abbrev pub run : List Piece → Builder → Result Builder PlacedFault
 run [] b = Ok b
 run (p ∷ ps) b = then (run ps) (step p.at.from p.at.to p.token b)
 
@@ -118,7 +118,7 @@ chosen_admits false ds p w can one = refl
 mutual
   -- one tree
   run_tree : (t : Tree) (w : List Frame) (done : List Datum) (rest : List Piece) → Fits (length w) t → (IsOne (yields t) → machine.admits w ≡ true) → run (tree_pieces t ++ rest) (builder w done) ≡ then (run rest) (give (yields t) w done)
-  run_tree (atom e form) w done rest fits can = rw (can (_, refl)) refl
+  run_tree (atom e form) w done rest fits can = refl
   run_tree (list kind o ts c) w done rest fits can =
       rw (begin_datum_is o.from (frame.List kind o.from []) w done fits.0 (can (_, refl)), append_assoc (trees_pieces ts) (piece token.Close c) rest) (run_trees ts kind o.from [] w done (piece token.Close c ++ rest) fits.1)
   run_tree (dotted o ts d us t vs c) w done rest fits can =

@@ -4,26 +4,8 @@ use Rattle.std.specs.List.{AllByRecursion}
 use Rattle.std.proofs.lemmas.Bool.{eqb-true, eqb-false, cond_both, ne_eqb}
 use Rattle.ls_reader.specs.declared.fault.FaultKind.{FaultKind}
 use Rattle.ls_reader.specs.declared.fault.FaultKind.TheVariants.{Unclosed}
-use Rattle.ls_reader.specs.Strings.{Inner, bare, escaped, inner_text, inner_char, inners_text, inner_chars, IsInner, with_char, content}
-
--- ---- for the code's loop
-
--- what was read before, and what is still read
-abbrev pub with_front : List ℕ → Result (List ℕ × List ℕ) FaultKind → Result (List ℕ × List ℕ) FaultKind
-with_front front (Ok x) = Ok (front ++ x.0, x.1)
-with_front front (Err k) = Err k
-
--- a character read before, or read next
-pub with_front-push : (front : List ℕ) (c : ℕ) (read : Result (List ℕ × List ℕ) FaultKind) → with_front (front ++ c ∷ []) read ≡ with_front front (with_char c read)
-with_front-push front c (Ok x) = ap (λ (cs : List ℕ). Ok (cs, x.1)) (append_assoc front (c ∷ []) x.0)
-with_front-push front c (Err k) = refl
-
--- nothing read before
-pub with_front-nil : (read : Result (List ℕ × List ℕ) FaultKind) → with_front [] read ≡ read
-with_front-nil (Ok x) = refl
-with_front-nil (Err k) = refl
-
-pub ruleset steps = (with_front-push, with_front-nil)
+use Rattle.ls_reader.specs.Strings.{Inner, bare, escaped, inner_text, inner_char, inners_text, inner_chars, IsInner}
+use Rattle.ls_reader.specs.steps.Delimited.{with_first, content}
 
 -- ---- what is read is a string, and a string is read
 
@@ -54,7 +36,7 @@ spelled_more i cs text rest is h = record {
 }
 
 -- a character more at the front
-reads_cons : (i : Inner) (cs : List ℕ) (r : Result (List ℕ × List ℕ) FaultKind) → IsInner 34 i → Reads cs r → Reads (inner_text i ++ cs) (with_char (inner_char i) r)
+reads_cons : (i : Inner) (cs : List ℕ) (r : Result (List ℕ × List ℕ) FaultKind) → IsInner 34 i → Reads cs r → Reads (inner_text i ++ cs) (with_first (inner_char i) r)
 reads_cons i cs (Ok x) is h = spelled_more i cs x.0 x.1 is h
 reads_cons i cs (Err k) is h = h
 
@@ -65,9 +47,9 @@ content_reads true [] = refl
 content_reads false [] = refl
 content_reads true (c ∷ cs) = reads_cons (escaped c) cs (content false cs) tt (content_reads false cs)
 content_reads false (c ∷ cs) =
-    cond_both (eqb c 34) (Ok ([], cs)) (cond (eqb c 92) (content true cs) (with_char c (content false cs))) (Reads (c ∷ cs))
+    cond_both (eqb c 34) (Ok ([], cs)) (cond (eqb c 92) (content true cs) (with_first c (content false cs))) (Reads (c ∷ cs))
     (λ e. record { inners = []; in_form = tt; is = ap (λ (x : ℕ). x ∷ cs) (eqb-true c 34 e); stand = refl })
-    (λ e. cond_both (eqb c 92) (content true cs) (with_char c (content false cs)) (Reads (c ∷ cs))
+    (λ e. cond_both (eqb c 92) (content true cs) (with_first c (content false cs)) (Reads (c ∷ cs))
     (λ d. subst (λ (x : ℕ). Reads (x ∷ cs) (content true cs)) (sym (eqb-true c 92 d)) (content_reads true cs))
     (λ d. reads_cons (bare c) cs (content false cs) (eqb-false c 34 e, eqb-false c 92 d) (content_reads false cs)))
 

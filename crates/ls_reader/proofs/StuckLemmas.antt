@@ -5,8 +5,9 @@ use Rattle.ls_reader.specs.declared.fault.FaultKind.{FaultKind}
 use Rattle.ls_reader.specs.declared.fault.FaultKind.TheVariants.{Unclosed}
 use Rattle.ls_reader.specs.declared.token.Token.{Token}
 use Rattle.ls_reader.specs.Characters.{syntax_of}
-use Rattle.ls_reader.specs.Comments.{IsUnended, comment}
-use Rattle.ls_reader.specs.Lexing.{Fault, lexeme}
+use Rattle.ls_reader.specs.Comments.{IsUnended}
+use Rattle.ls_reader.specs.steps.Delimited.{comment}
+use Rattle.ls_reader.specs.steps.Lexing.{LocalFault, lexeme}
 use Rattle.ls_reader.specs.Lexemes.{begins_invalid, begins_comment, IsStuck, invalid, in_comment, elsewhere}
 use Rattle.ls_reader.specs.Faults.{NoLexeme}
 use Rattle.ls_reader.proofs.CommentLemmas.{unended_again}
@@ -52,7 +53,7 @@ same_stuck cs k l a b (elsewhere i n e f) (in_comment v g) = absurd (false≢tru
 same_stuck cs k l a b (elsewhere i n e f) (elsewhere j m g h) = (e ∙ sym g, f ∙ sym h)
 
 -- the fault, by what was found
-stuck_by : (cs : List ℕ) (k : FaultKind) (before : List ℕ) (r : Result (Token × List ℕ) Fault) → Sound cs r → NoLexeme cs → IsStuck cs k before → r ≡ Err (k, length before)
+stuck_by : (cs : List ℕ) (k : FaultKind) (before : List ℕ) (r : Result (Token × List ℕ) LocalFault) → Sound cs r → NoLexeme cs → IsStuck cs k before → r ≡ Err (k, length before)
 stuck_by cs k before (Ok x) s not is = absurd (not x.0 s.0 x.1 s.1 s.2)
 stuck_by cs k before (Err x) s not is =
     let same = same_stuck cs x.0 k s.0 before s.1 is in

@@ -14,14 +14,13 @@ use Rattle.ls_reader.specs.declared.fault.Stop.{Stop}
 use Rattle.ls_reader.specs.declared.fault.Stop.TheVariants as stop
 use Rattle.ls_reader.specs.declared.token.Token.{Token}
 use Rattle.ls_reader.specs.Places.{start, after, after_all}
-use Rattle.ls_reader.specs.Lexing.{Fault, Fails, lexeme}
-use Rattle.ls_reader.specs.Machine.{step, finish, nothing, Found, FailsWith}
+use Rattle.ls_reader.specs.steps.Lexing.{LocalFault, Fails, lexeme}
+use Rattle.ls_reader.specs.steps.Building.{step, finish, nothing, PlacedFault, FailsWith}
 use Rattle.ls_reader.specs.Lexemes.{IsLexeme, IsStuck, Lexeme, Lexed, Extent, Piece, piece, pieces, text_of}
 use Rattle.ls_reader.specs.Trees.{Tree, Opening, list_of, dot_of, tail_of, mark_of, feature_of, chosen_of, Begun}
 use Rattle.ls_reader.specs.Forms.{FormsIn}
 use Rattle.ls_reader.specs.Faults.{Refused, NoLexeme, FaultNext, FaultIn}
-use Rattle.ls_reader.specs.Answers.{FailsIn}
-use Rattle.ls_reader.specs.Running.{Reading, used, stepped, taken, advance, IsSmall, IsWithin}
+use Rattle.ls_reader.specs.steps.Running.{Reading, used, stepped, taken, advance, IsSmall, IsWithin, FailsIn}
 use Rattle.ls_reader.proofs.LexemeLemmas.{Sound, lexeme_sound, no_lexeme, some_text}
 use Rattle.ls_reader.proofs.BuilderLemmas.{builder_of, Holds, Stepped, step_holds}
 
@@ -85,7 +84,7 @@ pub record Stands (cs : List ℕ) (r : Reading) : Type 0 where
   pub holds : Holds (pieces start lexemes) r.builder
 
 -- after a turn it stands so again and less is left, or there is the first fault
-abbrev pub Turned : List ℕ → Reading → Result Reading Found → Type 0
+abbrev pub Turned : List ℕ → Reading → Result Reading PlacedFault → Type 0
 Turned cs r (Ok s) = Stands cs s × (length s.rest < length r.rest) × (IsSmall r.at r.rest → IsSmall s.at s.rest)
 Turned cs r (Err x) = 0 < length r.rest → FaultIn cs x.0 x.1
 
@@ -107,7 +106,7 @@ pub rest_less : (cs : List ℕ) (x : Token × List ℕ) → lexeme cs ≡ Ok x �
 rest_less cs x e = found_less cs x (subst (Sound cs) e (lexeme_sound cs))
 
 turn_step : (cs : List ℕ) (r : Reading) (s : Stands cs r) (t : Token) (text more : List ℕ) → IsLexeme t text more → r.rest ≡ text ++ more → (to : Place) → to ≡ after_all r.at text
-    → (g : Result Builder Found) → Stepped (pieces start s.lexemes) (record { from = r.at; to = to }) t s.holds.w g → Turned cs r (stepped to more g)
+    → (g : Result Builder PlacedFault) → Stepped (pieces start s.lexemes) (record { from = r.at; to = to }) t s.holds.w g → Turned cs r (stepped to more g)
 turn_step cs r s t text more is at to to_is (Ok b) h =
     let xs = s.lexemes in
     let x : Lexeme = record { token = t; text = text } in
@@ -130,7 +129,7 @@ turn_step cs r s t text more is at to to_is (Err x) h = λ lt. record {
 }
 
 -- a turn, by the lexeme that is found
-turn_lexeme : (cs : List ℕ) (r : Reading) → Stands cs r → (f : Result (Token × List ℕ) Fault) → lexeme r.rest ≡ f → Sound r.rest f → Turned cs r (taken r f)
+turn_lexeme : (cs : List ℕ) (r : Reading) → Stands cs r → (f : Result (Token × List ℕ) LocalFault) → lexeme r.rest ≡ f → Sound r.rest f → Turned cs r (taken r f)
 turn_lexeme cs r s (Ok x) e h =
     let to = after_all r.at (used r.rest x.1) in
     let here : Extent = record { from = r.at; to = to } in
@@ -148,7 +147,7 @@ turn_lexeme cs r s (Err x) e h = λ lt. record {
 }
 
 -- a fault is within the text
-fault_within : (cs : List ℕ) (x : Fault) → lexeme cs ≡ Err x → x.1 ≤ length cs
+fault_within : (cs : List ℕ) (x : LocalFault) → lexeme cs ≡ Err x → x.1 ≤ length cs
 fault_within cs x e = (subst (Sound cs) e (lexeme_sound cs)).3
 
 -- the place of a fault is within the text
@@ -163,7 +162,7 @@ turned cs r s = turn_lexeme cs r s (lexeme r.rest) refl (lexeme_sound r.rest)
 pub turned_ok : (cs : List ℕ) (r s : Reading) → Stands cs r → advance r ≡ Ok s → Stands cs s × (length s.rest < length r.rest) × (IsSmall r.at r.rest → IsSmall s.at s.rest)
 turned_ok cs r s h e = subst (Turned cs r) e (turned cs r h)
 
-turned_err : (cs : List ℕ) (r : Reading) (x : Found) → Stands cs r → advance r ≡ Err x → 0 < length r.rest → FaultIn cs x.0 x.1
+turned_err : (cs : List ℕ) (r : Reading) (x : PlacedFault) → Stands cs r → advance r ≡ Err x → 0 < length r.rest → FaultIn cs x.0 x.1
 turned_err cs r x h e = subst (Turned cs r) e (turned cs r h)
 
 -- the failure of a turn is the first fault

@@ -46,7 +46,8 @@ character_form None = roll-Form Form-F.Odd
 
 -- the character of a name in either case, or of a code
 abbrev pub named : List ℕ → Form
-named text = character_form (or_else (character_of_name (map to_ascii_uppercase text)) (character_of_code (code_digits text)))
+named text =
+    character_form (or_else (character_of_name (map to_ascii_uppercase text)) (character_of_code (code_digits text)))
 
 -- the character that a text behind `#\` writes: itself, where it is only one, or else what it names
 abbrev pub character : List ℕ → Form

@@ -1,8 +1,6 @@
 -- Comments between `#|` and `|#`, which nest (2.4.8.19).
-use Rattle.std.specs.Prelude.{ℕ, zero, suc, ◌+◌, ◌≡◌, Bool, false, ◌&&◌, if◌then◌else◌, ◌==◌, List, [], ◌∷◌, ◌++◌, Option, Some, None, Result, Ok, Err}
+use Rattle.std.specs.Prelude.{ℕ, zero, suc, ◌≡◌, List, [], ◌∷◌, ◌++◌}
 use Rattle.std.specs.List.{flat_map}
-use Rattle.ls_reader.specs.declared.fault.FaultKind.{FaultKind}
-use Rattle.ls_reader.specs.declared.fault.FaultKind.TheVariants.{Unclosed}
 
 -- a part of a comment: `#|`, `|#`, or another character
 pub data CommentPart : Type 0 where
@@ -73,28 +71,3 @@ pub record IsUnended (cs around : List ℕ) : Type 0 where
   pub unended : AreUnended outer
   pub balanced : IsBalanced 0 inner
   pub before : around ≡ comment_text outer
-
--- ---- how the reader finds the end of a comment; nothing of this needs to be believed
-
--- whether a character is the second of a pair
-abbrev pub is_pair : ℕ → ℕ → Option ℕ → ℕ → Bool
-is_pair j k None c = false
-is_pair j k (Some p) c = p == j && c == k
-
--- where the next part begins, behind a character
-abbrev pub passed : ℕ → Option ℕ → ℕ
-passed at None = at
-passed at (Some p) = at + 1
-
--- what follows where a comment ends, by the starts of those around it
-abbrev pub closed : {X : Type 0} → List ℕ → X → (ℕ → List ℕ → X) → X
-closed [] whole next = whole
-closed (j ∷ w) whole next = next j w
-
--- what follows the comment, with the start of the innermost comment, the starts of those around it, the place of the
--- character before, if it is not yet of a part, and that character
-unfoldable pub comment : ℕ → List ℕ → ℕ → Option ℕ → List ℕ → Result (List ℕ) (FaultKind × ℕ)
-comment i w at last [] = Err (Unclosed, i)
-comment i w at last (c ∷ cs) =
-    if is_pair 124 35 last c then closed w (Ok cs) (λ j v. comment j v (at + 2) None cs) else
-    (if is_pair 35 124 last c then comment at (i ∷ w) (at + 2) None cs else comment i w (passed at last) (Some c) cs)

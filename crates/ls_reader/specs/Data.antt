@@ -13,7 +13,8 @@ use Rattle.ls_object.specs.ObjectText.{is_nil}
 
 -- a form that begins at a place and ends before a byte
 abbrev pub datum : Place → ℕ → Form → Datum
-datum from end form = record { span = record { start = from.byte; end = end; line = from.line; column = from.column }; form = form }
+datum from end form =
+    record { span = record { start = from.byte; end = end; line = from.line; column = from.column }; form = form }
 
 -- the place where a datum begins
 abbrev pub start_of : Datum → Place
@@ -44,7 +45,8 @@ takes_dot _ _ = false
 abbrev pub joined : List Datum → Datum → Form-F Form Datum → Form
 joined items last (Form-F.List more) = roll-Form (Form-F.List (items ++ more))
 joined items last (Form-F.Dotted more end) = roll-Form (Form-F.Dotted (items ++ more) end)
-joined items last (Form-F.Symbol symbol) = if is_nil symbol then roll-Form (Form-F.List items) else roll-Form (Form-F.Dotted items last)
+joined items last (Form-F.Symbol symbol) =
+    if is_nil symbol then roll-Form (Form-F.List items) else roll-Form (Form-F.Dotted items last)
 joined items last _ = roll-Form (Form-F.Dotted items last)
 
 -- what brackets with these data, a dot and a datum in them are (2.4.1)

@@ -50,13 +50,14 @@ EndsWrong d (chosen_of e plus us t vs ∷ w) p = IsTrue (kept plus (yields t)) �
 abbrev pub OutOfForm : Datum → List Opening → FaultKind → Place → Type 0
 OutOfForm d w k p = (k ≡ BadToken) × EndsWrong d w p
 
--- A closing bracket is refused where it ends nothing, where it ends a list whose dot no datum has followed, and where the
--- list or vector that it ends is a feature expression out of form, or ends one.
+-- A closing bracket is refused where it ends nothing, where it ends a list whose dot no datum has followed, and where
+-- the list or vector that it ends is a feature expression out of form, or ends one.
 abbrev pub RefusesClose : Extent → List Opening → FaultKind → Place → Type 0
 RefusesClose e [] k p = Stray e k p
 RefusesClose e (list_of kind o ts ∷ w) k p = OutOfForm (made.list kind o.from e.to (flat_map yields ts)) w k p
 RefusesClose e (dot_of o ts d us ∷ w) k p = Misplaced e k p
-RefusesClose e (tail_of o ts d us t vs ∷ w) k p = (x : Datum) × (yields t ≡ x ∷ []) × OutOfForm (made.dotted_list o.from e.to (flat_map yields ts) x) w k p
+RefusesClose e (tail_of o ts d us t vs ∷ w) k p = (x : Datum) × (yields t ≡ x ∷ [])
+    × OutOfForm (made.dotted_list o.from e.to (flat_map yields ts) x) w k p
 RefusesClose e (mark_of kind o us ∷ w) k p = Stray e k p
 RefusesClose e (feature_of o plus us ∷ w) k p = Stray e k p
 RefusesClose e (chosen_of o plus us t vs ∷ w) k p = Stray e k p
@@ -81,12 +82,20 @@ Refused (token.Bad kind) e w k p = (k ≡ kind) × (p ≡ e.from)
 abbrev pub NoLexeme : List ℕ → Type 0
 NoLexeme cs = (t : Token) (text more : List ℕ) → IsLexeme t text more → cs ≡ text ++ more → ⊥
 
+-- no lexeme begins at a place, and the fault is that of what stands there
+abbrev pub StuckAt : Place → List ℕ → FaultKind → Place → Type 0
+StuckAt at cs k place = (before : List ℕ) × NoLexeme cs × IsStuck cs k before × (place ≡ after_all at before)
+
+-- the lexeme that begins at a place is refused where these constructs are begun
+abbrev pub RefusedAt : Place → List ℕ → List Opening → FaultKind → Place → Type 0
+RefusedAt at cs w k place = (t : Token) × (text : List ℕ) × (more : List ℕ) × IsLexeme t text more × (cs ≡ text ++ more)
+    × Refused t (record { from = at; to = after_all at text }) w k place
+
 -- the fault of what comes next at a place, where these constructs are begun
 abbrev pub FaultNext : Place → List ℕ → List Opening → FaultKind → Place → Type 0
 FaultNext at [] [] k place = ⊥
 FaultNext at [] (o ∷ w) k place = (k ≡ Unclosed) × (place ≡ opening_start o)
-FaultNext at (c ∷ cs) w k place = ((before : List ℕ) × NoLexeme (c ∷ cs) × IsStuck (c ∷ cs) k before × (place ≡ after_all at before))
-    ⊎ ((t : Token) × (text : List ℕ) × (more : List ℕ) × IsLexeme t text more × (c ∷ cs ≡ text ++ more) × Refused t (record { from = at; to = after_all at text }) w k place)
+FaultNext at (c ∷ cs) w k place = StuckAt at (c ∷ cs) k place ⊎ RefusedAt at (c ∷ cs) w k place
 
 -- the first fault of the characters: what comes before it is whole trees and constructs begun
 pub record FaultIn (cs : List ℕ) (k : FaultKind) (place : Place) : Type 0 where

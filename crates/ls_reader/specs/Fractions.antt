@@ -29,7 +29,8 @@ abbrev pub divisor_below : (limit a b : ℕ) → b ≤ limit → (g : ℕ) × Is
 divisor_below limit a zero le = (a, IsGcd-from_zero a zero refl)
 divisor_below zero a (suc b) le = absurd (not-suc-le-zero le)
 divisor_below (suc limit) a (suc b) le =
-    let h = divisor_below limit (suc b) (a % suc b) (le-pred_of_lt (lt_of_lt_of_le (mod_below a (suc b) (zero-lt-suc b)) le)) in
+    let less = le-pred_of_lt (lt_of_lt_of_le (mod_below a (suc b) (zero-lt-suc b)) le) in
+    let h = divisor_below limit (suc b) (a % suc b) less in
     (h.0, IsGcd-from_mod a (suc b) h.0 h.1)
 
 -- the greatest common divisor of a numerator and a denominator, and that it is that
@@ -43,7 +44,8 @@ lowest_positive n d g p h = quotient_positive d g (d / g) p (mul-quotient d g (p
 -- a fraction divided by it is in lowest terms
 pub lowest_apart : (n d g : ℕ) → 0 < d → IsGcd n d g → IsGcd (n / g) (d / g) 1
 lowest_apart n d g p h =
-    let q = pos_of_dvd_of_pos h.1 p in IsGcd-reduced n d g (n / g) (d / g) q (mul-quotient n g q h.0) (mul-quotient d g q h.1) h
+    let q = pos_of_dvd_of_pos h.1 p in
+    IsGcd-reduced n d g (n / g) (d / g) q (mul-quotient n g q h.0) (mul-quotient d g q h.1) h
 
 -- The rational n/d or minus n/d: both divided by their greatest common divisor.
 abbrev pub rational : (negative : Bool) (n d : ℕ) → 0 < d → n ≤ 2 ^ 64 → d ≤ 2 ^ 60 → Rat

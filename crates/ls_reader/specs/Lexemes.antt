@@ -12,15 +12,15 @@ use Rattle.ls_reader.specs.declared.sharpsign.Construct.TheVariants as construct
 use Rattle.ls_reader.specs.declared.token.Token.{Token}
 use Rattle.ls_reader.specs.declared.token.Token.TheVariants as token
 use Rattle.ls_reader.specs.declared.token.Mark.TheVariants as mark
-use Rattle.ls_reader.specs.declared.word.Role.{Role}
-use Rattle.ls_reader.specs.declared.word.Role.TheVariants as role
+use Rattle.ls_reader.specs.declared.interpret.Role.{Role}
+use Rattle.ls_reader.specs.declared.interpret.Role.TheVariants as role
 use Rattle.ls_reader.specs.Characters.{is_blank, is_constituent, is_digit, is_not_newline, goes_on, begins_token, syntax_of}
 use Rattle.ls_reader.specs.CharNames.{character}
 use Rattle.ls_reader.specs.Comments.{CommentPart, comment_text, IsComment, IsUnended}
 use Rattle.ls_reader.specs.Places.{after_all}
-use Rattle.ls_reader.specs.Macros.{sign_token, is_splice, construct_of}
+use Rattle.ls_reader.specs.Macros.{macro_token, is_splice, construct_of}
 use Rattle.ls_reader.specs.Strings.{Inner, inners_text, inner_chars, IsInner}
-use Rattle.ls_reader.specs.Tokens.{Part, constituent, single, barred, parts_text, IsPart, signs_of, word}
+use Rattle.ls_reader.specs.Tokens.{Part, constituent, single, barred, parts_text, IsPart, chars_of, interpretation}
 
 -- no character of the class comes next
 abbrev pub Ends : (ℕ → Bool) → List ℕ → Type 0
@@ -59,7 +59,7 @@ pub data Written : Type 0 where
   -- a comment between `#|` and `|#` (2.4.8.19)
   nested : List CommentPart → Written
   -- a bracket, a quote or a backquote, and the token that it is
-  sign : ℕ → Token → Written
+  macro_char : ℕ → Token → Written
   -- a comma, and one with `@` or `.` behind it (2.4.7)
   lone_comma : Written
   splice : ℕ → Written
@@ -81,7 +81,7 @@ abbrev pub written : Written → List ℕ
 written (blanks cs) = cs
 written (line cs) = 59 ∷ cs
 written (nested ms) = 35 ∷ 124 ∷ (comment_text ms ++ 124 ∷ 35 ∷ [])
-written (sign c t) = c ∷ []
+written (macro_char c t) = c ∷ []
 written lone_comma = 44 ∷ []
 written (splice c) = 44 ∷ c ∷ []
 written (string is) = 34 ∷ (inners_text is ++ 34 ∷ [])
@@ -96,30 +96,32 @@ abbrev pub token_of : Written → Token
 token_of (blanks cs) = token.Gap
 token_of (line cs) = token.Gap
 token_of (nested ms) = token.Gap
-token_of (sign c t) = t
+token_of (macro_char c t) = t
 token_of lone_comma = token.Mark mark.Comma
 token_of (splice c) = token.Mark mark.Splice
 token_of (string is) = token.Atom (roll-Form (Form-F.Str (inner_chars is)))
-token_of (free ps) = word role.Free (signs_of ps)
+token_of (free ps) = interpretation role.Free (chars_of ps)
 token_of (alone digits c t) = t
 token_of (cut digits) = token.Bad BadToken
 token_of (character_of c cs) = token.Atom (character (c ∷ cs))
-token_of (behind digits c reads ps) = word reads (signs_of ps)
+token_of (behind digits c reads ps) = interpretation reads (chars_of ps)
 
 -- a lexeme is in form, and could not be longer, where the rest follows it
 abbrev pub StandsBefore : Written → List ℕ → Type 0
 StandsBefore (blanks cs) rest = (cs ≢ []) × IsRun is_blank cs rest
 StandsBefore (line cs) rest = IsRun is_not_newline cs rest
 StandsBefore (nested ms) rest = IsComment ms
-StandsBefore (sign c t) rest = sign_token c ≡ Some t
+StandsBefore (macro_char c t) rest = macro_token c ≡ Some t
 StandsBefore lone_comma rest = Ends is_splice rest
 StandsBefore (splice c) rest = is_splice c ≡ true
 StandsBefore (string is) rest = AllByRecursion (IsInner 34) is
 StandsBefore (free ps) rest = (ps ≢ []) × IsToken ps rest
-StandsBefore (alone digits c t) rest = Are is_digit digits × (is_digit c ≡ false) × (construct_of (is_counted digits) c ≡ construct_type.Alone t)
+StandsBefore (alone digits c t) rest = Are is_digit digits × (is_digit c ≡ false)
+    × (construct_of (is_counted digits) c ≡ construct_type.Alone t)
 StandsBefore (cut digits) rest = Are is_digit digits × (rest ≡ [])
 StandsBefore (character_of c cs) rest = IsRun is_constituent cs rest
-StandsBefore (behind digits c reads ps) rest = Are is_digit digits × (is_digit c ≡ false) × (construct_of (is_counted digits) c ≡ construct_type.Word reads) × IsToken ps rest
+StandsBefore (behind digits c reads ps) rest = Are is_digit digits × (is_digit c ≡ false)
+    × (construct_of (is_counted digits) c ≡ construct_type.Behind reads) × IsToken ps rest
 
 -- the text is the lexeme of a token, where the rest follows it
 abbrev pub IsLexeme : Token → List ℕ → List ℕ → Type 0

@@ -85,7 +85,9 @@ is_point (c ∷ d ∷ cs) = false
 
 -- an integer or a ratio (2.3.2.1): an integer may have a point behind it
 abbrev pub is_rational : List ℕ → Bool
-is_rational text = have_digits 10 (unsigned text) && (is_point (behind_digits 10 (unsigned text)) || ends_rational 10 (behind_digits 10 (unsigned text)))
+is_rational text =
+    let rest = behind_digits 10 (unsigned text) in
+    have_digits 10 (unsigned text) && (is_point rest || ends_rational 10 rest)
 
 -- the value of what stands behind a slash, and 1 where there is none
 abbrev pub denominator : ℕ → List ℕ → ℕ
@@ -105,7 +107,8 @@ fraction negative n (suc d) = number (literal_of negative n (suc d) (zero-lt-suc
 abbrev pub number_of : ℕ → List ℕ → Token
 number_of base text =
     let digits = unsigned text in
-    fraction (is_negative text) (value base (take (digits_len base digits) digits)) (denominator base (behind_digits base digits))
+    let numerator = value base (take (digits_len base digits) digits) in
+    fraction (is_negative text) numerator (denominator base (behind_digits base digits))
 
 -- ---- floats
 

@@ -10,7 +10,11 @@ start = record { byte = 0; line = 1; column = 1 }
 
 -- the place behind a character; a newline ends a line
 abbrev pub after : Place → ℕ → Place
-after p c = record { byte = p.byte + len_utf8 c; line = if c == 10 then p.line + 1 else p.line; column = if c == 10 then 1 else p.column + 1 }
+after p c = record {
+  byte = p.byte + len_utf8 c;
+  line = if c == 10 then p.line + 1 else p.line;
+  column = if c == 10 then 1 else p.column + 1;
+}
 
 -- the place behind a text
 abbrev pub after_all : Place → List ℕ → Place

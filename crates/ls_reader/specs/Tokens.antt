@@ -5,10 +5,10 @@ use Rattle.ls_reader.specs.declared.datum.Form.{Form, roll-Form}
 use Rattle.ls_reader.specs.declared.datum.Form.TheOpen.{Form-F}
 use Rattle.ls_reader.specs.declared.datum.FloatFormat.{FloatFormat}
 use Rattle.ls_reader.specs.declared.fault.FaultKind.TheVariants.{BadToken}
-use Rattle.ls_reader.specs.declared.sign.Sign.{Sign}
-use Rattle.ls_reader.specs.declared.sign.Sign.TheVariants.{Plain, Exact, Escape}
-use Rattle.ls_reader.specs.declared.word.Role.{Role}
-use Rattle.ls_reader.specs.declared.word.Role.TheVariants.{Free, Radix, Bits, Uninterned}
+use Rattle.ls_reader.specs.declared.token_char.TokenChar.{TokenChar}
+use Rattle.ls_reader.specs.declared.token_char.TokenChar.TheVariants.{Plain, Exact, Escape}
+use Rattle.ls_reader.specs.declared.interpret.Role.{Role}
+use Rattle.ls_reader.specs.declared.interpret.Role.TheVariants.{Free, Radix, Bits, Uninterned}
 use Rattle.ls_reader.specs.declared.token.Token.{Token}
 use Rattle.ls_reader.specs.declared.token.Token.TheVariants as token
 use Rattle.ls_reader.specs.Characters.{is_constituent}
@@ -41,41 +41,41 @@ abbrev pub parts_text : List Part → List ℕ
 parts_text ps = flat_map part_text ps
 
 -- an escaped character
-abbrev pub exact : Inner → Sign
+abbrev pub exact : Inner → TokenChar
 exact i = Exact (inner_char i)
 
 -- what a part stands for: plain and escaped characters, and that an escape stands there
-abbrev pub part_signs : Part → List Sign
-part_signs (constituent c) = Plain c ∷ []
-part_signs (single c) = Exact c ∷ []
-part_signs (barred is) = Escape ∷ map exact is
+abbrev pub part_chars : Part → List TokenChar
+part_chars (constituent c) = Plain c ∷ []
+part_chars (single c) = Exact c ∷ []
+part_chars (barred is) = Escape ∷ map exact is
 
 -- what parts stand for
-abbrev pub signs_of : List Part → List Sign
-signs_of ps = flat_map part_signs ps
+abbrev pub chars_of : List Part → List TokenChar
+chars_of ps = flat_map part_chars ps
 
 -- ---- what a token is
 
 -- a plain character
-abbrev pub is_plain_sign : Sign → Bool
-is_plain_sign (Plain c) = true
-is_plain_sign (Exact c) = false
-is_plain_sign Escape = false
+abbrev pub is_plain_char : TokenChar → Bool
+is_plain_char (Plain c) = true
+is_plain_char (Exact c) = false
+is_plain_char Escape = false
 
 -- a token without escapes
-abbrev pub are_plain : List Sign → Bool
+abbrev pub are_plain : List TokenChar → Bool
 are_plain [] = true
-are_plain (s ∷ ss) = is_plain_sign s && are_plain ss
+are_plain (s ∷ ss) = is_plain_char s && are_plain ss
 
--- the plain character of a sign
-abbrev pub sign_text : Sign → List ℕ
-sign_text (Plain c) = c ∷ []
-sign_text (Exact c) = []
-sign_text Escape = []
+-- the plain character of a character
+abbrev pub char_text : TokenChar → List ℕ
+char_text (Plain c) = c ∷ []
+char_text (Exact c) = []
+char_text Escape = []
 
 -- the characters of a token without escapes
-abbrev pub plain_text : List Sign → List ℕ
-plain_text ss = flat_map sign_text ss
+abbrev pub plain_text : List TokenChar → List ℕ
+plain_text ss = flat_map char_text ss
 
 -- a point
 abbrev pub is_point_char : ℕ → Bool
@@ -117,20 +117,22 @@ uninterned (token.Bad kind) = token.Bad kind
 uninterned _ = token.Atom (roll-Form Form-F.Odd)
 
 -- what a token without escapes is, by what it is read as
-abbrev pub plain_word : Role → List ℕ → Token
-plain_word Free text = plain_token text
-plain_word (Radix base) text = if is_rational_in base text then number_of base text else token.Bad BadToken
-plain_word (Bits counted) text = if are_bits text then token.Atom (bits counted (length text)) else token.Bad BadToken
-plain_word Uninterned [] = token.Bad BadToken
-plain_word Uninterned (c ∷ cs) = uninterned (plain_token (c ∷ cs))
+abbrev pub plain_interpretation : Role → List ℕ → Token
+plain_interpretation Free text = plain_token text
+plain_interpretation (Radix base) text = if is_rational_in base text then number_of base text else token.Bad BadToken
+plain_interpretation (Bits counted) text =
+    if are_bits text then token.Atom (bits counted (length text)) else token.Bad BadToken
+plain_interpretation Uninterned [] = token.Bad BadToken
+plain_interpretation Uninterned (c ∷ cs) = uninterned (plain_token (c ∷ cs))
 
 -- what a token with escapes is, by what it is read as
-abbrev pub escaped_word : Role → List Sign → Token
-escaped_word Free signs = symbol_token signs
-escaped_word (Radix base) signs = token.Bad BadToken
-escaped_word (Bits counted) signs = token.Bad BadToken
-escaped_word Uninterned signs = uninterned (symbol_token signs)
+abbrev pub escaped_interpretation : Role → List TokenChar → Token
+escaped_interpretation Free chars = symbol_token chars
+escaped_interpretation (Radix base) chars = token.Bad BadToken
+escaped_interpretation (Bits counted) chars = token.Bad BadToken
+escaped_interpretation Uninterned chars = uninterned (symbol_token chars)
 
 -- what a token is, by what it is read as
-unfoldable pub word : Role → List Sign → Token
-word role signs = if are_plain signs then plain_word role (plain_text signs) else escaped_word role signs
+unfoldable pub interpretation : Role → List TokenChar → Token
+interpretation role chars =
+    if are_plain chars then plain_interpretation role (plain_text chars) else escaped_interpretation role chars

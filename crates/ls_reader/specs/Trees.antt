@@ -43,9 +43,11 @@ abbrev mutual
   tree_pieces (atom e form) = piece (token.Atom form) e
   tree_pieces (list kind o ts c) = piece (token.Open kind) o ++ (trees_pieces ts ++ piece token.Close c)
   tree_pieces (dotted o ts d us t vs c) =
-      piece (token.Open bracket.Round) o ++ (trees_pieces ts ++ (piece token.Dot d ++ (trees_pieces us ++ (tree_pieces t ++ (trees_pieces vs ++ piece token.Close c)))))
+      piece (token.Open bracket.Round) o ++ (trees_pieces ts
+      ++ (piece token.Dot d ++ (trees_pieces us ++ (tree_pieces t ++ (trees_pieces vs ++ piece token.Close c)))))
   tree_pieces (marked kind e us t) = piece (token.Mark kind) e ++ (trees_pieces us ++ tree_pieces t)
-  tree_pieces (feature e plus us t vs x) = piece (token.Feature plus) e ++ (trees_pieces us ++ (tree_pieces t ++ (trees_pieces vs ++ tree_pieces x)))
+  tree_pieces (feature e plus us t vs x) = piece (token.Feature plus) e
+      ++ (trees_pieces us ++ (tree_pieces t ++ (trees_pieces vs ++ tree_pieces x)))
 
   pub trees_pieces : Trees → List Piece
   trees_pieces none = []
@@ -83,10 +85,12 @@ abbrev mutual
   pub Fits : ℕ → Tree → Type 0
   Fits n (atom e form) = Unit {0}
   Fits n (list kind o ts c) = (n < 256) × AllFit (suc n) ts
-  Fits n (dotted o ts d us t vs c) = (n < 256) × AllFit (suc n) ts × (data_of ts ≢ []) × AllFit (suc n) us × (data_of us ≡ [])
+  Fits n (dotted o ts d us t vs c) =
+      (n < 256) × AllFit (suc n) ts × (data_of ts ≢ []) × AllFit (suc n) us × (data_of us ≡ [])
       × Fits (suc n) t × IsOne (yields t) × AllFit (suc n) vs × (data_of vs ≡ [])
   Fits n (marked kind e us t) = (n < 256) × AllFit (suc n) us × (data_of us ≡ []) × Fits (suc n) t × IsOne (yields t)
-  Fits n (feature e plus us t vs x) = (n < 256) × AllFit (suc n) us × (data_of us ≡ []) × Fits (suc n) t × IsExpression (yields t)
+  Fits n (feature e plus us t vs x) =
+      (n < 256) × AllFit (suc n) us × (data_of us ≡ []) × Fits (suc n) t × IsExpression (yields t)
       × AllFit (suc n) vs × (data_of vs ≡ []) × Fits (suc n) x × IsOne (yields x)
 
   pub AllFit : ℕ → Trees → Type 0
@@ -120,12 +124,15 @@ opening_start (chosen_of e plus us t vs) = e.from
 -- the pieces of a construct so far
 abbrev pub opening_pieces : Opening → List Piece
 opening_pieces (list_of kind o ts) = piece (token.Open kind) o ++ flat_map tree_pieces ts
-opening_pieces (dot_of o ts d us) = piece (token.Open bracket.Round) o ++ (flat_map tree_pieces ts ++ (piece token.Dot d ++ flat_map tree_pieces us))
+opening_pieces (dot_of o ts d us) = piece (token.Open bracket.Round) o
+    ++ (flat_map tree_pieces ts ++ (piece token.Dot d ++ flat_map tree_pieces us))
 opening_pieces (tail_of o ts d us t vs) =
-    piece (token.Open bracket.Round) o ++ (flat_map tree_pieces ts ++ (piece token.Dot d ++ (flat_map tree_pieces us ++ (tree_pieces t ++ flat_map tree_pieces vs))))
+    piece (token.Open bracket.Round) o ++ (flat_map tree_pieces ts
+    ++ (piece token.Dot d ++ (flat_map tree_pieces us ++ (tree_pieces t ++ flat_map tree_pieces vs))))
 opening_pieces (mark_of kind e us) = piece (token.Mark kind) e ++ flat_map tree_pieces us
 opening_pieces (feature_of e plus us) = piece (token.Feature plus) e ++ flat_map tree_pieces us
-opening_pieces (chosen_of e plus us t vs) = piece (token.Feature plus) e ++ (flat_map tree_pieces us ++ (tree_pieces t ++ flat_map tree_pieces vs))
+opening_pieces (chosen_of e plus us t vs) = piece (token.Feature plus) e
+    ++ (flat_map tree_pieces us ++ (tree_pieces t ++ flat_map tree_pieces vs))
 
 -- the pieces of the constructs begun, of which the innermost comes first
 abbrev pub begun_pieces : List Opening → List Piece
@@ -150,12 +157,15 @@ StandForNone n us = AllByRecursion (Fits n) us × (flat_map yields us ≡ [])
 -- a construct that stands in others is in form so far
 abbrev pub OpeningFits : List Opening → Opening → Type 0
 OpeningFits w (list_of kind o ts) = (length w < 256) × (admits w ≡ true) × AllByRecursion (Fits (suc (length w))) ts
-OpeningFits w (dot_of o ts d us) = (length w < 256) × (admits w ≡ true) × AllByRecursion (Fits (suc (length w))) ts × (flat_map yields ts ≢ []) × StandForNone (suc (length w)) us
-OpeningFits w (tail_of o ts d us t vs) = (length w < 256) × (admits w ≡ true) × AllByRecursion (Fits (suc (length w))) ts × (flat_map yields ts ≢ []) × StandForNone (suc (length w)) us
+OpeningFits w (dot_of o ts d us) = (length w < 256) × (admits w ≡ true) × AllByRecursion (Fits (suc (length w))) ts
+    × (flat_map yields ts ≢ []) × StandForNone (suc (length w)) us
+OpeningFits w (tail_of o ts d us t vs) = (length w < 256) × (admits w ≡ true)
+    × AllByRecursion (Fits (suc (length w))) ts × (flat_map yields ts ≢ []) × StandForNone (suc (length w)) us
     × Fits (suc (length w)) t × IsOne (yields t) × StandForNone (suc (length w)) vs
 OpeningFits w (mark_of kind e us) = (length w < 256) × (admits w ≡ true) × StandForNone (suc (length w)) us
 OpeningFits w (feature_of e plus us) = (length w < 256) × StandForNone (suc (length w)) us
-OpeningFits w (chosen_of e plus us t vs) = (length w < 256) × StandForNone (suc (length w)) us × Fits (suc (length w)) t × IsExpression (yields t) × StandForNone (suc (length w)) vs
+OpeningFits w (chosen_of e plus us t vs) = (length w < 256) × StandForNone (suc (length w)) us
+    × Fits (suc (length w)) t × IsExpression (yields t) × StandForNone (suc (length w)) vs
 
 -- all constructs begun are in form so far
 abbrev pub AreBegun : List Opening → Type 0

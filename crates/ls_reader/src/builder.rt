@@ -1,7 +1,7 @@
 ghost use Rattle.std.specs.Prelude.{◌≡◌};
-ghost use Rattle.ls_reader.specs.Machine.{Steps};
+ghost use Rattle.ls_reader.specs.steps.Building.{Steps};
 ghost use Rattle.ls_reader.specs.Features as features;
-ghost use Rattle.ls_reader.specs.Machine as spec;
+ghost use Rattle.ls_reader.specs.steps.Building as spec;
 
 use crate::datum::Datum;
 use crate::fault::{Failure, FaultKind};
@@ -34,7 +34,8 @@ impl Builder {
         }
     }
 
-    /// A datum is whole: it goes into the construct around it, and may end that.
+    /// A datum is whole: it goes into the construct around it, and may end that. It fails where it is a second one
+    /// behind a dot, and where it ends a feature expression out of form.
     fn put(&mut self, alloc: Global, datum: Datum) -> Result<(), Failure>
         ensures { Steps result self.new (spec.put datum self.old.frames self.old.done) }
     {
@@ -65,7 +66,8 @@ impl Builder {
 
     /// The expression of a `#+` or `#-` is whole.
     fn choose(&mut self, from: Place, plus: bool, expression: &Datum) -> Result<(), Failure>
-        ensures { Steps result self.new (spec.choose from plus (features.holds expression.now) self.old.frames self.old.done) }
+        ensures { let value = features.holds expression.now in
+            Steps result self.new (spec.choose from plus value self.old.frames self.old.done) }
     {
         match holds(expression) {
             Some(holds) => {
@@ -111,17 +113,6 @@ impl Builder {
             return Err(Failure::Fault(FaultKind::BadDot, from));
         }
         self.begin(from, frame)
-    }
-
-    /// A datum of one token is whole.
-    #[inline(always)]
-    fn put_atom(&mut self, alloc: Global, from: Place, datum: Datum) -> Result<(), Failure>
-        ensures { Steps result self.new (spec.put_atom from datum self.old) }
-    {
-        if !self.admits() {
-            return Err(Failure::Fault(FaultKind::BadDot, from));
-        }
-        self.put(alloc, datum)
     }
 
     /// A closing bracket ends the innermost construct.
@@ -175,7 +166,7 @@ impl Builder {
             Token::Dot => self.dot(from),
             Token::Mark(kind) => self.begin_datum(from, Frame::Mark(kind, from)),
             Token::Feature(plus) => self.begin(from, Frame::Feature(from, plus)),
-            Token::Atom(form) => self.put_atom(alloc, from, datum(from, to.byte, form)),
+            Token::Atom(form) => self.put(alloc, datum(from, to.byte, form)),
             Token::Bad(kind) => Err(Failure::Fault(kind, from)),
         }
     }

@@ -1,8 +1,8 @@
 ghost use Rattle.std.specs.List.{prefix_len};
 ghost use Rattle.std.specs.Prelude.{◌≡◌, ◌+◌, ◌≤◌, ◌<◌, ◌^◌, length, [], None};
 ghost use Rattle.ls_reader.specs.Characters.{is_not_newline};
-ghost use Rattle.ls_reader.specs.Comments.{comment, is_pair, passed};
-ghost use Rattle.ls_reader.specs.Lexing.{Gives};
+ghost use Rattle.ls_reader.specs.steps.Delimited.{comment, is_pair, passed};
+ghost use Rattle.ls_reader.specs.steps.Lexing.{Gives};
 
 use crate::fault::{FaultKind, Stop};
 use crate::stack::Stack;
@@ -38,7 +38,7 @@ fn passed(at: usize, last: Option<char>) -> usize
 }
 
 /// What follows the comment that is begun before the text (2.4.8.19).
-#[tactic(auto, unfolding(crate::specs::Comments::comment), using(crate::proofs::CommentLemmas::passed_is))]
+#[tactic(auto, unfolding(crate::specs::steps::Delimited::comment), using(crate::proofs::CommentLemmas::passed_is))]
 pub(crate) fn after_comment(alloc: Global, text: &[char]) -> Result<&[char], Stop>
     ensures { Gives (λ x. x.now) result (comment 0 [] 2 None text.now) }
 {

@@ -1,18 +1,18 @@
 ghost use Rattle.std.specs.List.{prefix_len};
 ghost use Rattle.std.specs.Prelude.{◌≡◌, ◌≤◌, ◌∷◌, length};
 ghost use Rattle.ls_reader.specs.Characters as characters;
-ghost use Rattle.ls_reader.specs.Lexing as spec;
-ghost use Rattle.ls_reader.specs.Lexing.{Gives};
+ghost use Rattle.ls_reader.specs.steps.Lexing as spec;
+ghost use Rattle.ls_reader.specs.steps.Lexing.{Gives};
 ghost use Rattle.ls_reader.specs.Macros as macros;
 
 use crate::character::{Syntax, is_blank, syntax_of};
 use crate::comment::line_len;
 use crate::datum::Form;
 use crate::fault::{FaultKind, Stop};
+use crate::interpret::{Role, token_at};
 use crate::sharpsign::sharpsign;
 use crate::string::string_at;
 use crate::token::{Bracket, Mark, Token};
-use crate::word::{Role, word_at};
 use std::alloc::Global;
 
 /// How many characters of whitespace come first.
@@ -41,8 +41,8 @@ fn comma(text: &[char]) -> (Token, &[char])
 }
 
 /// The token that a bracket, a quote or a backquote is.
-fn sign_token(c: char) -> Option<Token>
-    ensures { result ≡ macros.sign_token c }
+fn macro_token(c: char) -> Option<Token>
+    ensures { result ≡ macros.macro_token c }
 {
     match c {
         '(' => Some(Token::Open(Bracket::Round)),
@@ -70,9 +70,9 @@ fn other_macro(alloc: Global, c: char, text: &[char]) -> Result<(Token, &[char])
 
 /// What a macro character begins that ends the token before it, and what follows (2.4).
 fn macro_at(alloc: Global, c: char, text: &[char]) -> Result<(Token, &[char]), Stop>
-    ensures { Gives (λ x. (x.0, x.1.now)) result (spec.macro_at (macros.sign_token c) c text.now) }
+    ensures { Gives (λ x. (x.0, x.1.now)) result (spec.macro_at (macros.macro_token c) c text.now) }
 {
-    match sign_token(c) {
+    match macro_token(c) {
         Some(token) => Ok((token, text)),
         None => other_macro(alloc, c, text),
     }
@@ -97,14 +97,14 @@ fn lexeme_by<'a>(
         Syntax::Terminating => macro_at(alloc, first, rest),
         Syntax::Sharp => sharpsign(alloc, rest),
         Syntax::Constituent | Syntax::SingleEscape | Syntax::MultipleEscape => {
-            word_at(alloc, Role::Free, text)
+            token_at(alloc, Role::Free, text)
         }
     }
 }
 
 /// The lexeme at the front of a text, and what follows (2.2). A fault comes with the count of characters before
 /// its place.
-#[tactic(auto, unfolding(crate::specs::Lexing::lexeme))]
+#[tactic(auto, unfolding(crate::specs::steps::Lexing::lexeme))]
 pub(crate) fn lexeme(alloc: Global, text: &[char]) -> Result<(Token, &[char]), Stop>
     ensures { Gives (λ x. (x.0, x.1.now)) result (spec.lexeme text.now) }
 {

@@ -1,32 +1,37 @@
 //! The reader: from the bytes of a text to its data, each with the place where it stands (chapter 2).
 #![tactic(auto)]
 
-mod builder;
+// What is read.
+mod datum;
+mod fault;
+mod place;
+mod small;
+
+// From characters to lexemes.
 mod character;
 mod charname;
 mod comment;
-mod copy;
-mod datum;
-mod fault;
-mod feature;
-mod frame;
+mod interpret;
 mod lexeme;
-mod making;
 mod name;
 mod number;
-mod place;
-mod reader;
 mod sharpsign;
-mod sign;
-mod small;
-mod stack;
 mod string;
 mod token;
-mod word;
+mod token_char;
+
+// From lexemes to data.
+mod builder;
+mod copy;
+mod feature;
+mod frame;
+mod making;
+mod reader;
+mod stack;
 
 pub use datum::{Datum, FloatFormat, Form, Literal, Span};
 pub use fault::ReadError;
-pub use reader::{MAX_LEN, one_answer, read_text};
+pub use reader::{one_answer, read_text};
 pub use small::SmallRat;
 
 #[cfg(test)]

@@ -2,12 +2,12 @@ ghost use Rattle.std.specs.List.{prefix_len};
 ghost use Rattle.std.specs.Prelude.{◌≡◌, ◌≤◌, length, map, IfOk, codes};
 ghost use Rattle.std.specs.Char.{to_ascii_uppercase};
 ghost use Rattle.ls_reader.specs.Names as spec;
-ghost use Rattle.ls_reader.specs.declared.sign.Sign.TheVariants.{Plain};
+ghost use Rattle.ls_reader.specs.declared.token_char.TokenChar.TheVariants.{Plain};
 
 use crate::datum::Form;
 use crate::fault::FaultKind;
-use crate::sign::Sign;
 use crate::token::Token;
+use crate::token_char::TokenChar;
 use ls_object::{Symbol, Text};
 use std::alloc::{AllocError, Global};
 
@@ -23,44 +23,44 @@ pub(crate) fn upper_case(alloc: Global, text: &[char]) -> Result<Text, AllocErro
     Ok(name)
 }
 
-/// The name that signs make.
-fn name_of(alloc: Global, signs: &[Sign]) -> Result<Text, AllocError>
-    ensures { IfOk result (λ t. t ≡ spec.name_of signs.now) }
+/// The name that characters make.
+fn name_of(alloc: Global, chars: &[TokenChar]) -> Result<Text, AllocError>
+    ensures { IfOk result (λ t. t ≡ spec.name_of chars.now) }
 {
     let mut name = Text::of_ascii(alloc, "")?;
-    for sign in signs {
-        match *sign {
-            Sign::Plain(c) => name.push(c.to_ascii_uppercase())?,
-            Sign::Exact(c) => name.push(c)?,
-            Sign::Escape => {}
+    for item in chars {
+        match *item {
+            TokenChar::Plain(c) => name.push(c.to_ascii_uppercase())?,
+            TokenChar::Exact(c) => name.push(c)?,
+            TokenChar::Escape => {}
         }
     }
     Ok(name)
 }
 
-/// Whether a sign is no package marker.
-fn is_no_marker(sign: Sign) -> bool
-    ensures { result ≡ spec.is_no_marker sign }
+/// Whether a character is no package marker.
+fn is_no_marker(item: TokenChar) -> bool
+    ensures { result ≡ spec.is_no_marker item }
 {
-    match sign {
-        Sign::Plain(c) => c != ':',
-        Sign::Exact(_) | Sign::Escape => true,
+    match item {
+        TokenChar::Plain(c) => c != ':',
+        TokenChar::Exact(_) | TokenChar::Escape => true,
     }
 }
 
-/// How many signs stand before the first package marker.
-fn marker_at(signs: &[Sign]) -> usize
-    ensures value { result ≡ spec.marker_at signs.now }
-    ensures within { result ≤ length signs.now }
+/// How many characters stand before the first package marker.
+fn marker_at(chars: &[TokenChar]) -> usize
+    ensures value { result ≡ spec.marker_at chars.now }
+    ensures within { result ≤ length chars.now }
 {
-    signs.iter().take_while(|sign| is_no_marker(**sign)).count()
+    chars.iter().take_while(|item| is_no_marker(**item)).count()
 }
 
-/// Whether signs can be a symbol's name behind a package marker.
-fn is_name(signs: &[Sign]) -> bool
-    ensures { result ≡ spec.is_name signs.now }
+/// Whether characters can be a symbol's name behind a package marker.
+fn is_name(chars: &[TokenChar]) -> bool
+    ensures { result ≡ spec.is_name chars.now }
 {
-    !signs.is_empty() && marker_at(signs) == signs.len()
+    !chars.is_empty() && marker_at(chars) == chars.len()
 }
 
 /// The package that a name of one stands for.
@@ -77,43 +77,43 @@ fn package_of(alloc: Global, name: Text) -> Result<Text, AllocError>
     }
 }
 
-/// The symbol of a package with the name that signs make, where they can be one.
-fn symbol_in(alloc: Global, home: Text, signs: &[Sign]) -> Result<Token, AllocError>
-    ensures { IfOk result (λ t. t ≡ spec.symbol_in home signs.now) }
+/// The symbol of a package with the name that characters make, where they can be one.
+fn symbol_in(alloc: Global, home: Text, chars: &[TokenChar]) -> Result<Token, AllocError>
+    ensures { IfOk result (λ t. t ≡ spec.symbol_in home chars.now) }
 {
-    if !is_name(signs) {
+    if !is_name(chars) {
         return Ok(Token::Bad(FaultKind::BadToken));
     }
-    let name = name_of(alloc, signs)?;
+    let name = name_of(alloc, chars)?;
     Ok(Token::Atom(Form::Symbol(Symbol {
         package: home,
         name,
     })))
 }
 
-/// The signs without the package marker that comes first, if one does.
-fn without_marker(signs: &[Sign]) -> &[Sign]
-    ensures { result.now ≡ spec.without_marker signs.now }
+/// The characters without the package marker that comes first, if one does.
+fn without_marker(chars: &[TokenChar]) -> &[TokenChar]
+    ensures { result.now ≡ spec.without_marker chars.now }
 {
-    match signs {
+    match chars {
         [first, rest @ ..] if !is_no_marker(*first) => rest,
-        _ => signs,
+        _ => chars,
     }
 }
 
 /// A symbol in a package of this name, behind one package marker or two.
-fn qualified(alloc: Global, home: Text, signs: &[Sign]) -> Result<Token, AllocError>
-    ensures { IfOk result (λ t. t ≡ spec.qualified home signs.now) }
+fn qualified(alloc: Global, home: Text, chars: &[TokenChar]) -> Result<Token, AllocError>
+    ensures { IfOk result (λ t. t ≡ spec.qualified home chars.now) }
 {
     if home.is_ascii_text("") {
         return Ok(Token::Bad(FaultKind::BadToken));
     }
     let home = package_of(alloc, home)?;
-    symbol_in(alloc, home, without_marker(signs))
+    symbol_in(alloc, home, without_marker(chars))
 }
 
-/// A symbol with a package marker between these signs.
-fn marked(alloc: Global, before: &[Sign], after: &[Sign]) -> Result<Token, AllocError>
+/// A symbol with a package marker between these characters.
+fn marked(alloc: Global, before: &[TokenChar], after: &[TokenChar]) -> Result<Token, AllocError>
     ensures { IfOk result (λ t. t ≡ spec.marked before.now after.now) }
 {
     if before.is_empty() {
@@ -133,10 +133,10 @@ fn common_lisp(alloc: Global, name: Text) -> Result<Token, AllocError>
 }
 
 /// The symbol that a token is (2.3.4).
-pub(crate) fn symbol_token(alloc: Global, signs: &[Sign]) -> Result<Token, AllocError>
-    ensures { IfOk result (λ t. t ≡ spec.symbol_token signs.now) }
+pub(crate) fn symbol_token(alloc: Global, chars: &[TokenChar]) -> Result<Token, AllocError>
+    ensures { IfOk result (λ t. t ≡ spec.symbol_token chars.now) }
 {
-    let (before, rest) = signs.split_at(marker_at(signs));
+    let (before, rest) = chars.split_at(marker_at(chars));
     match rest {
         [] => common_lisp(alloc, name_of(alloc, before)?),
         [_, after @ ..] => marked(alloc, before, after),
@@ -151,11 +151,11 @@ fn colon_at(text: &[char]) -> usize
     text.iter().take_while(|c| **c != ':').count()
 }
 
-/// The signs of a text without escapes.
-fn plain_signs(alloc: Global, text: &[char]) -> Result<Vec<Sign>, AllocError>
+/// The characters of a text without escapes.
+fn plain_chars(alloc: Global, text: &[char]) -> Result<Vec<TokenChar>, AllocError>
     ensures { IfOk result (λ v. v.items ≡ map Plain text.now) }
 {
-    text.iter().map(|c| Sign::Plain(*c)).collect(alloc)
+    text.iter().map(|c| TokenChar::Plain(*c)).collect(alloc)
 }
 
 /// The symbol that a token without escapes is.
@@ -167,6 +167,6 @@ pub(crate) fn plain_symbol(alloc: Global, text: &[char]) -> Result<Token, AllocE
     if colon_at(text) == text.len() {
         return common_lisp(alloc, upper_case(alloc, text)?);
     }
-    let signs = plain_signs(alloc, text)?;
-    symbol_token(alloc, &signs)
+    let chars = plain_chars(alloc, text)?;
+    symbol_token(alloc, &chars)
 }

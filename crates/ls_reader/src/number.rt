@@ -3,20 +3,14 @@ ghost use Rattle.std.proofs.Math.Nat.{zero-lt-suc};
 ghost use Rattle.ls_reader.specs.Characters as characters;
 ghost use Rattle.ls_reader.specs.Fractions.{signed, literal_of};
 ghost use Rattle.ls_reader.specs.Numbers as spec;
-ghost use Rattle.ls_reader.specs.Lexing.{may_be_number};
+ghost use Rattle.ls_reader.specs.steps.Lexing.{may_be_number};
 ghost use Rattle.ls_reader.specs.Tokens.{are_bits};
 
 use crate::datum::{FloatFormat, Form, Literal};
 use crate::fault::FaultKind;
-use crate::small::SmallRat;
+use crate::small::{MAX_DENOMINATOR, MAX_NUMERATOR, SmallRat};
 use crate::token::Token;
 use ls_object::Rat;
-
-/// The greatest numerator that is kept, in absolute value.
-const MAX_NUMERATOR: u128 = 1 << 64;
-
-/// The greatest denominator that is kept.
-const MAX_DENOMINATOR: u128 = 1 << 60;
 
 fn is_sign(c: char) -> bool
     ensures { result ≡ characters.is_sign c }

@@ -3,12 +3,11 @@ ghost use Rattle.std.specs.Str.{chars, IsUtf8, IsValidUpTo};
 ghost use Rattle.std.specs.Str.Lossy.{utf8_valid_len};
 ghost use Rattle.ls_reader.specs.Forms.{Forms, FormsIn};
 ghost use Rattle.ls_reader.specs.Faults.{Fault};
-ghost use Rattle.ls_reader.specs.Answers.{FailsIn, FailsAt, IsFaultOf, HasForms, HasFault, ReadsAs, RefusesAs};
-ghost use Rattle.ls_reader.specs.Running.{reading, advance, Turns, IsSmall, IsWithin, failure_at};
+ghost use Rattle.ls_reader.specs.Answers.{IsFaultOf, IsFault, HasForms, HasFault};
+ghost use Rattle.ls_reader.specs.steps.Running.{reading, advance, Turns, IsSmall, IsWithin, failure_at, FailsIn, FailsAt};
 ghost use Rattle.ls_reader.specs.declared.datum.Datum.{Datum};
 ghost use Rattle.ls_reader.specs.declared.place.Place.{Place};
 ghost use Rattle.ls_reader.specs.declared.fault.FaultKind.{FaultKind};
-ghost use Rattle.ls_reader.specs.declared.reader.TheConstants.{MAX_LEN};
 
 use crate::builder::Builder;
 use crate::datum::Datum;
@@ -18,9 +17,6 @@ use crate::place::Place;
 use sqlite_items::Items;
 use std::alloc::{AllocError, Global};
 use std::str;
-
-/// The greatest length of a text, in bytes.
-pub const MAX_LEN: usize = 16_777_216;
 
 /// What is left of a text, from where on, and what was read.
 #[derive(Drop)]
@@ -72,7 +68,7 @@ impl<'a> Reader<'a> {
 
 /// The data of a whole text.
 fn read_chars(alloc: Global, text: &[char]) -> Result<Items<Datum>, Failure>
-    requires { length text.now ≤ MAX_LEN }
+    requires { length text.now ≤ 16777216 }
     ensures ok { IfOk result (FormsIn text.now) }
     ensures err { IfErr result (FailsIn text.now) }
 {
@@ -102,7 +98,7 @@ fn decode(alloc: Global, text: &str) -> Result<Vec<char>, AllocError>
 fn not_utf8(alloc: Global, bytes: &[u8], valid: usize) -> Failure
     requires valid { valid ≡ utf8_valid_len bytes.now }
     requires front { IsValidUpTo bytes.now valid }
-    requires short { length bytes.now ≤ MAX_LEN }
+    requires short { length bytes.now ≤ 16777216 }
     requires not_utf8 { IsUtf8 bytes.now → ⊥ }
     ensures { FailsAt bytes.now result }
 {
@@ -117,7 +113,7 @@ fn not_utf8(alloc: Global, bytes: &[u8], valid: usize) -> Failure
 
 /// The data of bytes, or their first fault.
 fn read(alloc: Global, bytes: &[u8]) -> Result<Items<Datum>, Failure>
-    requires { length bytes.now ≤ MAX_LEN }
+    requires { length bytes.now ≤ 16777216 }
     ensures ok { IfOk result (Forms bytes.now) }
     ensures err { IfErr result (FailsAt bytes.now) }
 {
@@ -133,22 +129,23 @@ fn read(alloc: Global, bytes: &[u8]) -> Result<Items<Datum>, Failure>
 /// The data of a text in UTF-8 (2.2), or its first fault from left to right.
 ///
 /// A line is 1 plus the count of newlines before, and a column 1 plus the count of characters since the last newline.
-/// Lists, vectors, prefixes and `#` constructs that hold a datum may be 256 deep in one another. Fails with the fault
-/// that is met first, each at the place that `ReadError` states, and with `Memory` where there is none for the data.
-pub fn read_text(alloc: Global, bytes: &[u8]) -> Result<Items<Datum>, ReadError>
-    requires { length bytes.now ≤ MAX_LEN }
+/// Lists, vectors, prefixes and `#` constructs that hold a datum may be 256 deep in one another. The fault is the one
+/// that is met first, each at the place that `ReadError` states. Fails where there is no memory for the data.
+pub fn read_text(alloc: Global, bytes: &[u8]) -> Result<Result<Items<Datum>, ReadError>, AllocError>
+    requires { length bytes.now ≤ 16777216 }
     // What is read is what the text says.
-    ensures ok { IfOk result (Forms bytes.now) }
-    // What the text says is read, unless memory runs out.
-    ensures reads { (fs : List Datum) → Forms bytes.now fs → ReadsAs fs result }
+    ensures ok { IfOk result (λ read. IfOk read (Forms bytes.now)) }
+    // What the text says is read.
+    ensures reads { (fs : List Datum) → Forms bytes.now fs → IfOk result (λ read. read ≡ Ok fs) }
     // The fault that is answered is that of the text, at its place.
-    ensures fault { IfErr result (IsFaultOf bytes.now) }
-    // The fault that the text has is answered, unless memory runs out.
-    ensures refuses { (k : FaultKind) (place : Place) → Fault bytes.now k place → RefusesAs k place result }
+    ensures fault { IfOk result (λ read. IfErr read (IsFaultOf bytes.now)) }
+    // The fault that the text has is answered.
+    ensures refuses { (k : FaultKind) (place : Place) → Fault bytes.now k place → IfOk result (IsFault k place) }
 {
     match read(alloc, bytes) {
-        Ok(forms) => Ok(forms),
-        Err(failure) => Err(ReadError::from(failure)),
+        Ok(forms) => Ok(Ok(forms)),
+        Err(Failure::Memory) => Err(AllocError),
+        Err(Failure::Fault(kind, at)) => Ok(Err(ReadError::of_kind(kind, at.span()))),
     }
 }
 
@@ -157,6 +154,7 @@ pub fn read_text(alloc: Global, bytes: &[u8]) -> Result<Items<Datum>, ReadError>
 pub fn one_answer()
     ensures some { (bytes : List ℕ) → HasForms bytes ⊎ HasFault bytes }
     ensures forms { (bytes : List ℕ) (fs gs : List Datum) → Forms bytes fs → Forms bytes gs → fs ≡ gs }
-    ensures fault { (bytes : List ℕ) (k l : FaultKind) (p q : Place) → Fault bytes k p → Fault bytes l q → (k ≡ l) × (p ≡ q) }
-    ensures apart { (bytes : List ℕ) (fs : List Datum) (k : FaultKind) (p : Place) → Forms bytes fs → Fault bytes k p → ⊥ }
+    ensures fault { (bytes : List ℕ) (k l : FaultKind) (p q : Place) → Fault bytes k p → Fault bytes l q
+        → (k ≡ l) × (p ≡ q) }
+    ensures apart { (bytes : List ℕ) → HasForms bytes → HasFault bytes → ⊥ }
 {}

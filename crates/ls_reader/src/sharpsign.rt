@@ -1,15 +1,15 @@
 ghost use Rattle.std.specs.List.{prefix_len};
 ghost use Rattle.std.specs.Prelude.{◌≡◌, ◌∷◌, ◌≤◌, length};
 ghost use Rattle.ls_reader.specs.Characters as characters;
-ghost use Rattle.ls_reader.specs.Lexing as spec;
-ghost use Rattle.ls_reader.specs.Lexing.{Gives};
+ghost use Rattle.ls_reader.specs.steps.Lexing as spec;
+ghost use Rattle.ls_reader.specs.steps.Lexing.{Gives};
 ghost use Rattle.ls_reader.specs.Macros as macros;
 
 use crate::charname::character;
 use crate::comment::after_comment;
 use crate::fault::{FaultKind, Stop};
+use crate::interpret::{Role, constituents_len, token_behind};
 use crate::token::{Bracket, Mark, Token};
-use crate::word::{Role, constituents_len, word_behind};
 use std::alloc::Global;
 
 /// What stands behind a `#` (2.4.8).
@@ -20,7 +20,7 @@ pub(crate) enum Construct {
     /// A character (2.4.8.1).
     Character,
     /// A token directly behind.
-    Word(Role),
+    Behind(Role),
     /// Nothing directly behind.
     Alone(Token),
 }
@@ -55,7 +55,7 @@ fn numbered_construct(c: char) -> Construct
 {
     match c {
         '(' => Construct::Alone(Token::Open(Bracket::Odd)),
-        '*' => Construct::Word(Role::Bits(true)),
+        '*' => Construct::Behind(Role::Bits(true)),
         _ if is_not_kept(c) => Construct::Alone(Token::Mark(Mark::Odd)),
         '=' | '#' => Construct::Alone(Token::Bad(FaultKind::Label)),
         _ => Construct::Alone(Token::Bad(FaultKind::BadToken)),
@@ -68,17 +68,17 @@ fn plain_construct(c: char) -> Construct
 {
     match c {
         '(' => Construct::Alone(Token::Open(Bracket::Vector)),
-        '*' => Construct::Word(Role::Bits(false)),
+        '*' => Construct::Behind(Role::Bits(false)),
         _ if is_not_kept(c) => Construct::Alone(Token::Mark(Mark::Odd)),
         '|' => Construct::Comment,
         '\\' => Construct::Character,
         '\'' => Construct::Alone(Token::Mark(Mark::FunctionOf)),
         '+' => Construct::Alone(Token::Feature(true)),
         '-' => Construct::Alone(Token::Feature(false)),
-        ':' => Construct::Word(Role::Uninterned),
-        'b' | 'B' => Construct::Word(Role::Radix(2)),
-        'o' | 'O' => Construct::Word(Role::Radix(8)),
-        'x' | 'X' => Construct::Word(Role::Radix(16)),
+        ':' => Construct::Behind(Role::Uninterned),
+        'b' | 'B' => Construct::Behind(Role::Radix(2)),
+        'o' | 'O' => Construct::Behind(Role::Radix(8)),
+        'x' | 'X' => Construct::Behind(Role::Radix(16)),
         _ => Construct::Alone(Token::Bad(FaultKind::BadToken)),
     }
 }
@@ -122,7 +122,7 @@ fn construct_at(
             Ok((Token::Gap, rest))
         }
         Construct::Character => character_at(alloc, text),
-        Construct::Word(role) => word_behind(alloc, role, text),
+        Construct::Behind(role) => token_behind(alloc, role, text),
         Construct::Alone(token) => Ok((token, text)),
     }
 }

@@ -1,4 +1,5 @@
 use super::*;
+use sqlite_items::Items;
 use std::alloc::AllocError;
 use std::test::*;
 
@@ -98,44 +99,45 @@ fn describe_symbol(out: &mut String, package_name: &str, name: &str) -> Result<(
     out.push_str(name)
 }
 
-/// What a text reads as, written out; None where it is not read.
-fn reading(rt: &HostRuntime, text: &[u8], spans: bool) -> Option<String> {
-    if text.len() > 1000 {
+/// The data of a text, or its fault; None where the text is too long, or there is no memory.
+fn read(rt: &HostRuntime, text: &[u8]) -> Option<Result<Items<Datum>, ReadError>> {
+    if text.len() > 16_777_216 {
         return None;
     }
-    let data = read_text(rt.alloc(), text).ok()?;
+    read_text(rt.alloc(), text).ok()
+}
+
+/// What a text reads as, written out; None where it is not read.
+fn reading(rt: &HostRuntime, text: &[u8], spans: bool) -> Option<String> {
+    let data = read(rt, text)?.ok()?;
     let mut out = String::new(rt.alloc());
     describe_all(&mut out, data.as_slice(), spans).ok()?;
     Some(out)
 }
 
-/// The kind of an error, and the span of a fault.
-fn kind_of(error: &ReadError) -> (&'static str, Option<Span>) {
+/// The kind of a fault, and its span.
+fn kind_of(error: &ReadError) -> (&'static str, Span) {
     match error {
-        ReadError::NotUtf8(at) => ("not utf-8", Some(*at)),
-        ReadError::BadToken(at) => ("bad token", Some(*at)),
-        ReadError::StrayClose(at) => ("stray close", Some(*at)),
-        ReadError::Unclosed(at) => ("unclosed", Some(*at)),
-        ReadError::BadDot(at) => ("bad dot", Some(*at)),
-        ReadError::TooDeep(at) => ("too deep", Some(*at)),
-        ReadError::ZeroDenominator(at) => ("zero denominator", Some(*at)),
-        ReadError::Label(at) => ("label", Some(*at)),
-        ReadError::Memory => ("memory", None),
+        ReadError::NotUtf8(at) => ("not utf-8", *at),
+        ReadError::BadToken(at) => ("bad token", *at),
+        ReadError::StrayClose(at) => ("stray close", *at),
+        ReadError::Unclosed(at) => ("unclosed", *at),
+        ReadError::BadDot(at) => ("bad dot", *at),
+        ReadError::TooDeep(at) => ("too deep", *at),
+        ReadError::ZeroDenominator(at) => ("zero denominator", *at),
+        ReadError::Label(at) => ("label", *at),
     }
 }
 
 /// The fault of a text: its kind, byte, line and column, with the end of its span.
 fn fault(rt: &HostRuntime, text: &[u8]) -> (&'static str, u32, u32, u32, u32) {
-    if text.len() > 1000 {
-        return ("too long", 0, 0, 0, 0);
-    }
-    let kind = match read_text(rt.alloc(), text) {
-        Err(error) => kind_of(&error),
-        Ok(_) => ("none", None),
-    };
-    match kind {
-        (kind, Some(at)) => (kind, at.start, at.end, at.line, at.column),
-        (kind, None) => (kind, 0, 0, 0, 0),
+    match read(rt, text) {
+        Some(Err(error)) => {
+            let (kind, at) = kind_of(&error);
+            (kind, at.start, at.end, at.line, at.column)
+        }
+        Some(Ok(_)) => ("none", 0, 0, 0, 0),
+        None => ("no memory", 0, 0, 0, 0),
     }
 }
 
@@ -167,7 +169,7 @@ const DATA: [(&str, &str); 11] = [
 ];
 
 /// Texts and their data, without spans.
-const FORMS: [(&str, &str); 25] = [
+const FORMS: [(&str, &str); 26] = [
     ("+1 -1 007 -0 10. +5.", " 1/1 -1/1 7/1 0/1 10/1 5/1"),
     (
         "1+ + - -a 1e e5 1e+ +e5 1g5 1e5e5 ./ +.",
@@ -208,8 +210,12 @@ const FORMS: [(&str, &str); 25] = [
     ),
     ("|a:b| a\\:b :|| a:|| |p|:q", " a:b A:B : A:: p::Q"),
     (
-        "#\\a #\\Space #\\NEWLINE #\\u+e9 #\\( #\\Linefeed #\\rubout",
-        " #97 #32 #10 #233 #40 #10 #127",
+        "the-package-of-a-name-that-is-long::the-name-itself-which-is-much-longer-than-64-characters",
+        " THE-PACKAGE-OF-A-NAME-THAT-IS-LONG::THE-NAME-ITSELF-WHICH-IS-MUCH-LONGER-THAN-64-CHARACTERS",
+    ),
+    (
+        "#\\a #\\Space #\\NEWLINE #\\u+e9 #\\( #\\Linefeed #\\rubout #\\Page #\\tab #\\Return #\\BackSpace",
+        " #97 #32 #10 #233 #40 #10 #127 #12 #9 #13 #8",
     ),
     (
         "#\\U+110000 #\\foo #\\U+D800 #\\U+10FFFF #\\U+0000041 #\\U+ #\\a\\b",
@@ -225,8 +231,8 @@ const FORMS: [(&str, &str); 25] = [
         " #' CAR odd odd odd odd odd odd odd odd",
     ),
     (
-        "(a . b) (a . (b c)) (a . nil) (a . (b . c)) (a . 'b)",
-        " ( A . B) ( A B C) ( A) ( A B . C) ( A . ' B)",
+        "(a . b) (a . (b c)) (a . nil) (a . (b . c)) (a . 'b) (a . p:x) (a . :k)",
+        " ( A . B) ( A B C) ( A) ( A B . C) ( A . ' B) ( A . P::X) ( A . :K)",
     ),
     (
         "(a . #+(or) x b #-(and) y) (a . b #+(or) c)",
@@ -340,6 +346,23 @@ fn faults(rt: HostRuntime) {
     }
 }
 
+/// A front, a part so often, and a back.
+fn repeated(
+    rt: &HostRuntime,
+    front: &[u8],
+    part: &[u8],
+    count: usize,
+    back: &[u8],
+) -> Result<Vec<u8>, AllocError> {
+    let mut text = Vec::new(rt.alloc());
+    text.extend_from_slice(front)?;
+    for _ in 0..count {
+        text.extend_from_slice(part)?;
+    }
+    text.extend_from_slice(back)?;
+    Ok(text)
+}
+
 /// A prefix so often, an atom, and closing brackets.
 fn nested(
     rt: &HostRuntime,
@@ -347,11 +370,7 @@ fn nested(
     depth: usize,
     close: usize,
 ) -> Result<Vec<u8>, AllocError> {
-    let mut text = Vec::new(rt.alloc());
-    for _ in 0..depth {
-        text.extend_from_slice(open)?;
-    }
-    text.push(b'a')?;
+    let mut text = repeated(rt, b"", open, depth, b"a")?;
     for _ in 0..close {
         text.push(b')')?;
     }
@@ -376,10 +395,43 @@ fn depth(rt: HostRuntime) -> Result<(), Fail> {
     Ok(())
 }
 
+/// Large texts: what comes first, what comes again and again, how often, what comes last, and how many data are read.
+const LARGE: [(&[u8], &[u8], usize, &[u8], usize); 12] = [
+    (b"", b"a ", 600_000, b"", 600_000),
+    (b"", b"a:b ", 20_000, b"", 20_000),
+    (b"", b"(a . #(b 'c))", 20_000, b"", 20_000),
+    (b"", b"#+lisp a #-(and x) b 1/2 ", 20_000, b"", 40_000),
+    (b"(", b"\n\tb", 20_000, b")", 1),
+    (b"(a . (", b"b ", 20_000, b"))", 1),
+    (b"\"", b"\\\"s", 20_000, b"\"", 1),
+    (b"p:|", b"b\\|", 20_000, b"|c", 1),
+    (b"", b"1", 20_000, b"/1", 1),
+    (b"#*", b"01", 20_000, b"", 1),
+    (b"#\\", b"a", 20_000, b"", 1),
+    (b"a;", b"; c ", 20_000, b"", 1),
+];
+
+/// How many data a text has; None where it is not read.
+fn count_of(rt: &HostRuntime, text: &[u8]) -> Option<usize> {
+    Some(read(rt, text)?.ok()?.len())
+}
+
+#[test]
+fn large_texts(rt: HostRuntime) -> Result<(), Fail> {
+    for (front, part, count, back, want) in LARGE {
+        let text = repeated(&rt, front, part, count, back)?;
+        assert_eq!(rt; count_of(&rt, &text), Some(want), "at {part:?}");
+    }
+    Ok(())
+}
+
 #[test]
 fn copies_and_sizes(rt: HostRuntime) -> Result<(), Fail> {
     let text = b"(a (b . c) #(1 'd) \"e\")";
-    let data = read_text(rt.alloc(), text).ok().ok_or("the text is read")?;
+    let data = read(&rt, text)
+        .ok_or("there is memory")?
+        .ok()
+        .ok_or("the text is read")?;
     let datum = data.get(0).ok_or("there is a datum")?;
     assert_eq!(rt; datum.size(), 10);
     let copy = datum.copy(rt.alloc())?;

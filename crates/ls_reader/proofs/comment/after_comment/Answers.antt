@@ -1,5 +1,5 @@
 use Rattle.std.proofs.Common.{◌≡◌, ◌+◌, ◌∙◌, true, false, [], None, length, sym, arith}
-use Rattle.ls_reader.specs.Comments.{is_pair, comment}
+use Rattle.ls_reader.specs.steps.Delimited.{is_pair, comment}
 use Rattle.ls_reader.proofs.CommentLemmas.{closes_on, opens_on, pair_within}
 use Rattle.ls_reader.proofs.comment.after_comment.Goals as goal
 

@@ -1,5 +1,5 @@
 use Rattle.std.proofs.Common.{◌≡◌, ◌+◌, ◌≤◌, [], None, length}
-use Rattle.ls_reader.specs.Comments.{comment}
+use Rattle.ls_reader.specs.steps.Delimited.{comment}
 use Rattle.ls_reader.proofs.CommentLemmas.{pending}
 use Rattle.ls_reader.proofs.comment.after_comment.Given as goal
 

@@ -2,5 +2,5 @@ use Rattle.std.proofs.Common.{◌≡◌, take}
 use Rattle.ls_reader.specs.Names.{name_of}
 use Rattle.ls_reader.proofs.name.name_of.Given as goal
 
-abbrev pub invariant-loop-sign : goal.invariant-loop-sign
-invariant-loop-sign l = l.name ≡ name_of (take l.sign-index l.signs)
+abbrev pub invariant-loop-item : goal.invariant-loop-item
+invariant-loop-item l = l.name ≡ name_of (take l.item-index l.chars)

@@ -1,7 +1,7 @@
 use Rattle.std.proofs.lemmas.Bool.Decides.{nat_tests}
 use Rattle.std.proofs.Common.{arith}
 use Rattle.std.proofs.lemmas.Result.{err_from_is_err_and}
-use Rattle.ls_reader.specs.Running.{reading}
+use Rattle.ls_reader.specs.steps.Running.{reading}
 use Rattle.ls_reader.proofs.TurnLemmas.{stands_start, small_start, turned_ok, err_is_fault}
 use Rattle.ls_reader.proofs.reader.read_chars.Goals as goal
 

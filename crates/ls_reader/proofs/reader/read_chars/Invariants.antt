@@ -1,5 +1,5 @@
 use Rattle.std.proofs.Common.{length}
-use Rattle.ls_reader.specs.Running.{reading, IsSmall}
+use Rattle.ls_reader.specs.steps.Running.{reading, IsSmall}
 use Rattle.ls_reader.proofs.TurnLemmas.{Stands}
 use Rattle.ls_reader.proofs.reader.read_chars.Given as goal
 

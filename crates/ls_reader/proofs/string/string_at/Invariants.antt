@@ -1,6 +1,6 @@
 use Rattle.std.proofs.Common.{◌≡◌, false, length}
-use Rattle.ls_reader.specs.Strings.{content}
-use Rattle.ls_reader.proofs.StringLemmas.{with_front}
+use Rattle.ls_reader.specs.steps.Delimited.{content}
+use Rattle.ls_reader.proofs.FrontLemmas.{with_front}
 use Rattle.ls_reader.proofs.string.string_at.Given as goal
 
 abbrev pub invariant-loop-rest : goal.invariant-loop-rest

@@ -1,5 +1,5 @@
 use Rattle.std.proofs.Common.{◌≡◌, drop}
-use Rattle.ls_reader.specs.Machine.{admits}
+use Rattle.ls_reader.specs.steps.Building.{admits}
 use Rattle.ls_reader.proofs.builder.Builder.admits.Given as goal
 
 abbrev pub invariant-loop-depth : goal.invariant-loop-depth

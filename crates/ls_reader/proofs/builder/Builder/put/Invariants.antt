@@ -1,5 +1,5 @@
 use Rattle.std.proofs.Common.{◌≡◌, length}
-use Rattle.ls_reader.specs.Machine.{put}
+use Rattle.ls_reader.specs.steps.Building.{put}
 use Rattle.ls_reader.proofs.builder.Builder.put.Given as goal
 
 abbrev pub invariant-loop-frame : goal.invariant-loop-frame

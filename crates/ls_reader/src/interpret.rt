@@ -1,18 +1,18 @@
 ghost use Rattle.std.specs.List.{prefix_len};
 ghost use Rattle.std.specs.Prelude.{◌≡◌, ◌∷◌, ◌≤◌, length, map, IfOk, false};
 ghost use Rattle.ls_reader.specs.Characters.{is_constituent};
-ghost use Rattle.ls_reader.specs.Lexing as spec;
-ghost use Rattle.ls_reader.specs.Lexing.{Gives};
+ghost use Rattle.ls_reader.specs.steps.Lexing as spec;
+ghost use Rattle.ls_reader.specs.steps.Lexing.{Gives};
 ghost use Rattle.ls_reader.specs.Tokens as tokens;
-ghost use Rattle.ls_reader.specs.declared.word.Mode.TheVariants as modes;
+ghost use Rattle.ls_reader.specs.declared.interpret.Mode.TheVariants as modes;
 
 use crate::character::is_constituent;
 use crate::datum::Form;
 use crate::fault::{FaultKind, Stop};
 use crate::name::{plain_symbol, symbol_token};
 use crate::number::{are_bits, float_of, is_rational, is_rational_in, may_be_number, number_of};
-use crate::sign::Sign;
 use crate::token::Token;
+use crate::token_char::TokenChar;
 use std::alloc::{AllocError, Global};
 
 /// What a token is read as.
@@ -47,18 +47,18 @@ enum Step {
     /// It changes how the next one is read.
     Skip(Mode),
     /// It stands for something.
-    Keep(Mode, Sign),
+    Keep(Mode, TokenChar),
 }
 
 fn outside_step(c: char) -> Step
     ensures { result ≡ spec.outside_step c }
 {
     if is_constituent(c) {
-        Step::Keep(Mode::Outside, Sign::Plain(c))
+        Step::Keep(Mode::Outside, TokenChar::Plain(c))
     } else if c == '\\' {
         Step::Skip(Mode::Single)
     } else if c == '|' {
-        Step::Keep(Mode::Bars, Sign::Escape)
+        Step::Keep(Mode::Bars, TokenChar::Escape)
     } else {
         Step::End
     }
@@ -70,7 +70,7 @@ fn bars_step(c: char) -> Step
     match c {
         '|' => Step::Skip(Mode::Outside),
         '\\' => Step::Skip(Mode::BarsSingle),
-        _ => Step::Keep(Mode::Bars, Sign::Exact(c)),
+        _ => Step::Keep(Mode::Bars, TokenChar::Exact(c)),
     }
 }
 
@@ -80,9 +80,9 @@ fn step_of(mode: Mode, c: char) -> Step
 {
     match mode {
         Mode::Outside => outside_step(c),
-        Mode::Single => Step::Keep(Mode::Outside, Sign::Exact(c)),
+        Mode::Single => Step::Keep(Mode::Outside, TokenChar::Exact(c)),
         Mode::Bars => bars_step(c),
-        Mode::BarsSingle => Step::Keep(Mode::Bars, Sign::Exact(c)),
+        Mode::BarsSingle => Step::Keep(Mode::Bars, TokenChar::Exact(c)),
     }
 }
 
@@ -96,27 +96,27 @@ fn at_end(mode: Mode) -> Result<(), Stop>
     }
 }
 
-/// The signs of the token that comes first, and what follows.
-#[tactic(auto, unfolding(crate::specs::Lexing::scan), using(crate::proofs::WordLemmas::steps))]
-fn signs_at(alloc: Global, text: &[char]) -> Result<(Vec<Sign>, &[char]), Stop>
+/// The characters of the token that comes first, and what follows.
+#[tactic(auto, unfolding(crate::specs::steps::Lexing::scan), using(crate::proofs::FrontLemmas::steps))]
+fn chars_at(alloc: Global, text: &[char]) -> Result<(Vec<TokenChar>, &[char]), Stop>
     ensures { Gives (λ x. (x.0.items, x.1.now)) result (spec.at_front (spec.scan modes.Outside text.now)) }
 {
-    let mut signs = Vec::new(alloc);
+    let mut chars = Vec::new(alloc);
     let mut mode = Mode::Outside;
     let mut rest = text;
     while let [c, others @ ..] = rest {
         match step_of(mode, *c) {
-            Step::End => return Ok((signs, rest)),
+            Step::End => return Ok((chars, rest)),
             Step::Skip(next) => mode = next,
-            Step::Keep(next, sign) => {
-                signs.push(sign)?;
+            Step::Keep(next, kept) => {
+                chars.push(kept)?;
                 mode = next;
             }
         }
         rest = others;
     }
     at_end(mode)?;
-    Ok((signs, rest))
+    Ok((chars, rest))
 }
 
 /// How many constituents come first.
@@ -142,7 +142,7 @@ fn points_len(text: &[char]) -> usize
 }
 
 /// What a token without escapes is (2.3). Most are symbols, which the first character tells.
-#[tactic(auto, using(crate::proofs::WordLemmas::plain_token_symbol))]
+#[tactic(auto, using(crate::proofs::TokenLemmas::plain_token_symbol))]
 #[inline(always)]
 fn plain_token(alloc: Global, text: &[char]) -> Result<Token, AllocError>
     ensures { IfOk result (λ t. t ≡ tokens.plain_token text.now) }
@@ -195,8 +195,8 @@ fn uninterned(token: Token) -> Token
 
 /// What a token without escapes is, by what it is read as.
 #[inline(always)]
-fn plain_word(alloc: Global, role: Role, text: &[char]) -> Result<Token, AllocError>
-    ensures { IfOk result (λ t. t ≡ tokens.plain_word role text.now) }
+fn plain_interpretation(alloc: Global, role: Role, text: &[char]) -> Result<Token, AllocError>
+    ensures { IfOk result (λ t. t ≡ tokens.plain_interpretation role text.now) }
 {
     match role {
         Role::Free => plain_token(alloc, text),
@@ -208,12 +208,16 @@ fn plain_word(alloc: Global, role: Role, text: &[char]) -> Result<Token, AllocEr
 }
 
 /// What a token with escapes is, by what it is read as.
-fn escaped_word(alloc: Global, role: Role, signs: &[Sign]) -> Result<Token, AllocError>
-    ensures { IfOk result (λ t. t ≡ tokens.escaped_word role signs.now) }
+fn escaped_interpretation(
+    alloc: Global,
+    role: Role,
+    chars: &[TokenChar],
+) -> Result<Token, AllocError>
+    ensures { IfOk result (λ t. t ≡ tokens.escaped_interpretation role chars.now) }
 {
     match role {
-        Role::Free => symbol_token(alloc, signs),
-        Role::Uninterned => Ok(uninterned(symbol_token(alloc, signs)?)),
+        Role::Free => symbol_token(alloc, chars),
+        Role::Uninterned => Ok(uninterned(symbol_token(alloc, chars)?)),
         Role::Radix(_) | Role::Bits(_) => Ok(Token::Bad(FaultKind::BadToken)),
     }
 }
@@ -230,28 +234,28 @@ fn begins_escape(text: &[char]) -> bool
 
 /// The token that comes first, and what follows. Nearly all tokens have no escapes.
 #[inline(always)]
-pub(crate) fn word_at(alloc: Global, role: Role, text: &[char]) -> Result<(Token, &[char]), Stop>
-    ensures { Gives (λ x. (x.0, x.1.now)) result (spec.word_at role text.now) }
+pub(crate) fn token_at(alloc: Global, role: Role, text: &[char]) -> Result<(Token, &[char]), Stop>
+    ensures { Gives (λ x. (x.0, x.1.now)) result (spec.token_at role text.now) }
 {
     let (front, rest) = text.split_at(constituents_len(text));
     if begins_escape(rest) {
-        let (signs, rest) = signs_at(alloc, text)?;
-        return Ok((escaped_word(alloc, role, &signs)?, rest));
+        let (chars, rest) = chars_at(alloc, text)?;
+        return Ok((escaped_interpretation(alloc, role, &chars)?, rest));
     }
-    Ok((plain_word(alloc, role, front)?, rest))
+    Ok((plain_interpretation(alloc, role, front)?, rest))
 }
 
 /// The token directly behind a construct's character, where `#` begins none.
-#[tactic(auto, using(crate::proofs::WordLemmas::no_word))]
-pub(crate) fn word_behind(
+#[tactic(auto, using(crate::proofs::TokenLemmas::nothing_read))]
+pub(crate) fn token_behind(
     alloc: Global,
     role: Role,
     text: &[char],
 ) -> Result<(Token, &[char]), Stop>
-    ensures { Gives (λ x. (x.0, x.1.now)) result (spec.word_behind role text.now) }
+    ensures { Gives (λ x. (x.0, x.1.now)) result (spec.token_behind role text.now) }
 {
     match text {
-        ['#', ..] => Ok((plain_word(alloc, role, &[])?, text)),
-        _ => word_at(alloc, role, text),
+        ['#', ..] => Ok((plain_interpretation(alloc, role, &[])?, text)),
+        _ => token_at(alloc, role, text),
     }
 }

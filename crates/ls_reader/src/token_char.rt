@@ -1,6 +1,6 @@
 /// What a part of a token stands for (2.2).
 #[derive(Clone, Copy, Debug, PartialEq, Eq)]
-pub(crate) enum Sign {
+pub(crate) enum TokenChar {
     /// A character outside escapes.
     Plain(char),
     /// A character that an escape takes as it is.

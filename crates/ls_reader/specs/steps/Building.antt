@@ -16,18 +16,19 @@ use Rattle.ls_reader.specs.Data as made
 use Rattle.ls_reader.specs.Features.{holds, is_kept}
 
 -- a fault and its place
-abbrev pub Found : Type 0
-Found = FaultKind × Place
+abbrev pub PlacedFault : Type 0
+PlacedFault = FaultKind × Place
 
 -- The expression of a feature is whole.
-abbrev pub choose : Place → Bool → Option Bool → List Frame → List Datum → Result Builder Found
+abbrev pub choose : Place → Bool → Option Bool → List Frame → List Datum → Result Builder PlacedFault
 choose from plus None w done = Err (BadToken, from)
 choose from plus (Some b) w done = Ok (record { frames = frame.Chosen from (is_kept plus (Some b)) ∷ w; done = done })
 
--- A datum is whole: it goes into the construct around it, and may end that.
-abbrev pub put : Datum → List Frame → List Datum → Result Builder Found
+-- A datum is whole: it goes into the construct around it, and may end that. A second one behind a dot is a fault.
+abbrev pub put : Datum → List Frame → List Datum → Result Builder PlacedFault
 put d [] done = Ok (record { frames = []; done = done ++ d ∷ [] })
-put d (frame.List kind from items ∷ w) done = Ok (record { frames = frame.List kind from (items ++ d ∷ []) ∷ w; done = done })
+put d (frame.List kind from items ∷ w) done =
+    Ok (record { frames = frame.List kind from (items ++ d ∷ []) ∷ w; done = done })
 put d (frame.Dot from items ∷ w) done = Ok (record { frames = frame.Tail from items d ∷ w; done = done })
 put d (frame.Tail from items last ∷ w) done = Err (BadDot, made.start_of d)
 put d (frame.Mark kind from ∷ w) done = put (made.mark_on kind from d) w done
@@ -46,19 +47,16 @@ admits (frame.Feature from plus ∷ w) = true
 admits (frame.Chosen from kept ∷ w) = if kept then admits w else true
 
 -- A construct begins, unless it would be 257 deep.
-abbrev pub begin : Place → Frame → Builder → Result Builder Found
-begin from f s = if nat_lt (length s.frames) 256 then Ok (record { frames = f ∷ s.frames; done = s.done }) else Err (TooDeep, from)
+abbrev pub begin : Place → Frame → Builder → Result Builder PlacedFault
+begin from f s =
+    if nat_lt (length s.frames) 256 then Ok (record { frames = f ∷ s.frames; done = s.done }) else Err (TooDeep, from)
 
 -- A construct that is a datum begins.
-abbrev pub begin_datum : Place → Frame → Builder → Result Builder Found
+abbrev pub begin_datum : Place → Frame → Builder → Result Builder PlacedFault
 begin_datum from f s = if admits s.frames then begin from f s else Err (BadDot, from)
 
--- A datum of one token is whole.
-abbrev pub put_atom : Place → Datum → Builder → Result Builder Found
-put_atom from d s = if admits s.frames then put d s.frames s.done else Err (BadDot, from)
-
 -- A closing bracket ends the innermost construct, which must be a list or a vector (2.4.2).
-abbrev pub close : Place → Place → List Frame → List Datum → Result Builder Found
+abbrev pub close : Place → Place → List Frame → List Datum → Result Builder PlacedFault
 close at to [] done = Err (StrayClose, at)
 close at to (frame.List kind from items ∷ w) done = put (made.list kind from to items) w done
 close at to (frame.Dot from items ∷ w) done = Err (BadDot, at)
@@ -68,9 +66,11 @@ close at to (frame.Feature from plus ∷ w) done = Err (StrayClose, at)
 close at to (frame.Chosen from kept ∷ w) done = Err (StrayClose, at)
 
 -- A dot stands in the innermost construct, which must be a list with data in it.
-abbrev pub dot : Place → List Frame → List Datum → Result Builder Found
+abbrev pub dot : Place → List Frame → List Datum → Result Builder PlacedFault
 dot at [] done = Err (BadDot, at)
-dot at (frame.List kind from items ∷ w) done = if made.takes_dot kind items then Ok (record { frames = frame.Dot from items ∷ w; done = done }) else Err (BadDot, at)
+dot at (frame.List kind from items ∷ w) done =
+    if made.takes_dot kind items
+    then Ok (record { frames = frame.Dot from items ∷ w; done = done }) else Err (BadDot, at)
 dot at (frame.Dot from items ∷ w) done = Err (BadDot, at)
 dot at (frame.Tail from items last ∷ w) done = Err (BadDot, at)
 dot at (frame.Mark kind from ∷ w) done = Err (BadDot, at)
@@ -78,14 +78,14 @@ dot at (frame.Feature from plus ∷ w) done = Err (BadDot, at)
 dot at (frame.Chosen from kept ∷ w) done = Err (BadDot, at)
 
 -- a token from one place to another
-abbrev pub step : Place → Place → Token → Builder → Result Builder Found
+abbrev pub step : Place → Place → Token → Builder → Result Builder PlacedFault
 step from to token.Gap s = Ok s
 step from to (token.Open kind) s = begin_datum from (frame.List kind from []) s
 step from to token.Close s = close from to s.frames s.done
 step from to token.Dot s = dot from s.frames s.done
 step from to (token.Mark kind) s = begin_datum from (frame.Mark kind from) s
 step from to (token.Feature plus) s = begin from (frame.Feature from plus) s
-step from to (token.Atom form) s = put_atom from (made.datum from to.byte form) s
+step from to (token.Atom form) s = put (made.datum from to.byte form) s.frames s.done
 step from to (token.Bad kind) s = Err (kind, from)
 
 -- before the first token
@@ -93,12 +93,12 @@ abbrev pub nothing : Builder
 nothing = record { frames = []; done = [] }
 
 -- an error is that of the step, or memory ran out
-abbrev pub FailsWith : {Y : Type 0} → Failure → Result Y Found → Type 0
+abbrev pub FailsWith : {Y : Type 0} → Failure → Result Y PlacedFault → Type 0
 FailsWith failure.Memory stepped = Unit {0}
 FailsWith (failure.Fault kind at) stepped = stepped ≡ Err (kind, at)
 
 -- What a method of a builder answered, and left, is what a step gives, unless memory ran out.
-abbrev pub Steps : {U : Type 0} → Result U Failure → Builder → Result Builder Found → Type 0
+abbrev pub Steps : {U : Type 0} → Result U Failure → Builder → Result Builder PlacedFault → Type 0
 Steps (Ok u) new stepped = stepped ≡ Ok new
 Steps (Err e) new stepped = FailsWith e stepped
 

@@ -9,8 +9,9 @@ use Rattle.ls_reader.specs.declared.fault.Stop.TheVariants as stop
 use Rattle.ls_reader.specs.declared.reader.Reader.{Reader}
 use Rattle.ls_reader.specs.declared.token.Token.{Token}
 use Rattle.ls_reader.specs.Places.{after_all}
-use Rattle.ls_reader.specs.Lexing.{Fault, lexeme}
-use Rattle.ls_reader.specs.Machine.{step, Found, FailsWith}
+use Rattle.ls_reader.specs.Faults.{Fault, FaultIn}
+use Rattle.ls_reader.specs.steps.Lexing.{LocalFault, lexeme}
+use Rattle.ls_reader.specs.steps.Building.{step, PlacedFault, FailsWith}
 
 -- what is left, from where on, and what was read
 pub record Reading : Type 0 where
@@ -27,21 +28,21 @@ abbrev pub used : List ℕ → List ℕ → List ℕ
 used cs more = take (length cs - length more) cs
 
 -- what is read with a builder as a step leaves it
-abbrev pub stepped : Place → List ℕ → Result Builder Found → Result Reading Found
+abbrev pub stepped : Place → List ℕ → Result Builder PlacedFault → Result Reading PlacedFault
 stepped at rest (Ok b) = Ok (record { at = at; rest = rest; builder = b })
 stepped at rest (Err x) = Err x
 
 -- what is read once a lexeme is found, or the fault is at its place
-abbrev pub taken : Reading → Result (Token × List ℕ) Fault → Result Reading Found
+abbrev pub taken : Reading → Result (Token × List ℕ) LocalFault → Result Reading PlacedFault
 taken r (Ok x) = let to = after_all r.at (used r.rest x.1) in stepped to x.1 (step r.at to x.0 r.builder)
 taken r (Err x) = Err (x.0, after_all r.at (take x.1 r.rest))
 
 -- what is read with one lexeme more
-abbrev pub advance : Reading → Result Reading Found
+abbrev pub advance : Reading → Result Reading PlacedFault
 advance r = taken r (lexeme r.rest)
 
 -- What a method of a reader answered, and left, is what the turn gives, unless memory ran out.
-abbrev pub Turns : {U : Type 0} → Result U Failure → Reader → Result Reading Found → Type 0
+abbrev pub Turns : {U : Type 0} → Result U Failure → Reader → Result Reading PlacedFault → Type 0
 Turns (Ok u) new turn = turn ≡ Ok (reading new)
 Turns (Err e) new turn = FailsWith e turn
 
@@ -60,3 +61,13 @@ IsWithin (stop.Fault k n) text = n ≤ length text
 abbrev pub failure_at : Stop → Place → List ℕ → Failure
 failure_at stop.Memory at text = failure.Memory
 failure_at (stop.Fault k n) at text = failure.Fault k (after_all at (take n text))
+
+-- the failure is the fault of the characters, unless memory ran out
+abbrev pub FailsIn : List ℕ → Failure → Type 0
+FailsIn cs failure.Memory = Unit {0}
+FailsIn cs (failure.Fault k place) = FaultIn cs k place
+
+-- the failure is the fault of the bytes, unless memory ran out
+abbrev pub FailsAt : List ℕ → Failure → Type 0
+FailsAt bytes failure.Memory = Unit {0}
+FailsAt bytes (failure.Fault k place) = Fault bytes k place

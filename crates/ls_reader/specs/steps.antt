@@ -1,0 +1,4 @@
+pub mod Delimited
+pub mod Lexing
+pub mod Building
+pub mod Running
