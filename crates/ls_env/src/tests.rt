@@ -20,7 +20,7 @@ fn queries(rt: &HostRuntime, text: &str) -> Option<String> {
     if text.len() > 1000 {
         return None;
     }
-    let forms = read_text(rt.alloc(), text.as_bytes()).ok()?.ok()?;
+    let forms = read_text(rt.alloc(), text.as_bytes()).ok()?;
     let env = Env::of_file(rt.alloc(), &forms).ok()?;
     let mut out = String::new(rt.alloc());
     describe(&env, &mut out).ok()?;

@@ -97,7 +97,7 @@ fn resolution(rt: &HostRuntime, text: &str) -> Option<String> {
     if text.len() > 1_000_000 {
         return None;
     }
-    let forms = read_text(rt.alloc(), text.as_bytes()).ok()?.ok()?;
+    let forms = read_text(rt.alloc(), text.as_bytes()).ok()?;
     let env = Env::of_file(rt.alloc(), &forms).ok()?;
     resolved(rt, &env, forms.as_slice().first()?).ok()
 }

@@ -1,5 +1,6 @@
 -- What a text says is one thing, and what was answered is that.
 use Rattle.std.proofs.Common.{◌≡◌, ℕ, ◌≤◌, ◌⊎◌, inl, inr, Bool, true, false, List, [], ◌∷◌, length, take, Option, Some, None, Result, Ok, Err, refl, sym, ap, subst, ◌∙◌, arith}
+use Rattle.std.specs.Prelude.{IfSome}
 use Rattle.std.specs.Str.{chars, IsUtf8, is_utf8}
 use Rattle.std.specs.Str.Lossy.{utf8_valid_len}
 use Rattle.std.proofs.lemmas.Bool.{false≢true}
@@ -7,13 +8,18 @@ use lib.Utf8.{encodes}
 use Rattle.std.proofs.lemmas.Str.{encodes-chars, length-le-encodes, IsUtf8-from_is_utf8, is_utf8-from_IsUtf8}
 use Rattle.ls_reader.specs.declared.place.Place.{Place}
 use Rattle.ls_reader.specs.declared.datum.Datum.{Datum}
+use Rattle.ls_reader.specs.declared.datum.Span.{Span}
 use Rattle.ls_reader.specs.declared.fault.FaultKind.{FaultKind}
 use Rattle.ls_reader.specs.declared.fault.FaultKind.TheVariants.{NotUtf8}
+use Rattle.ls_reader.specs.declared.fault.Failure.{Failure}
+use Rattle.ls_reader.specs.declared.fault.Failure.TheVariants as failure
 use Rattle.ls_reader.specs.declared.fault.ReadError.{ReadError}
+use Rattle.ls_reader.specs.declared.fault.ReadError.TheVariants as errors
 use Rattle.ls_reader.specs.Places.{start, after_all, span_at}
 use Rattle.ls_reader.specs.Forms.{Forms, FormsIn}
 use Rattle.ls_reader.specs.Faults.{Fault}
-use Rattle.ls_reader.specs.Answers.{fault_of, IsFaultOf, HasForms, HasFault}
+use Rattle.ls_reader.specs.Answers.{fault_of, FaultAt, IsFaultOf, HasForms, HasFault}
+use Rattle.ls_reader.specs.steps.Running.{fault_of_failure, FailsAt}
 use Rattle.ls_reader.proofs.OneAnswerLaw.{outcome, forms_outcome, fault_outcome, Settles, outcome_settles}
 
 -- ---- characters
@@ -79,24 +85,40 @@ settled bytes = settled_when bytes (is_utf8 bytes) refl
 
 -- ---- what was answered
 
--- the error of a fault is that of the bytes
-pub error_is_fault : (bytes : List ℕ) (k : FaultKind) (place : Place) (e : ReadError) → Fault bytes k place → fault_of e ≡ (k, span_at place) → IsFaultOf bytes e
-error_is_fault bytes k place e h is = rw is (place, h, refl)
+-- a failure tells the fault of the bytes
+fault_at : (bytes : List ℕ) (x : Failure) → FailsAt bytes x → IfSome (fault_of_failure x) (FaultAt bytes)
+fault_at bytes failure.Memory h = tt
+fault_at bytes (failure.Fault k place) h = (place, h, refl)
 
--- bytes with a fault have no other one
-pub error_is_the_fault : (bytes : List ℕ) (k l : FaultKind) (p q : Place) (e : ReadError) → Fault bytes k p → fault_of e ≡ (k, span_at p) → Fault bytes l q → fault_of e ≡ (l, span_at q)
-error_is_the_fault bytes k l p q e h is other =
-    let same = fault_same bytes k l p q h other in
-    is ∙ ap (λ (x : FaultKind). (x, span_at p)) same.0 ∙ ap (λ (x : Place). (l, span_at x)) same.1
+-- the error of a failure is the fault of the bytes
+pub error_is_fault : (bytes : List ℕ) (x : Failure) (e : ReadError) → FailsAt bytes x → fault_of e ≡ fault_of_failure x → IsFaultOf bytes e
+error_is_fault bytes x e h is = rw is (fault_at bytes x h)
+
+-- an error that tells no fault is want of memory
+memory_or_fault : (e : ReadError) → ((fault : FaultKind × Span) → fault_of e ≡ Some fault → ⊥) → e ≡ errors.Memory
+memory_or_fault errors.Memory h = refl
+memory_or_fault (errors.NotUtf8 span) h = absurd (h _ refl)
+memory_or_fault (errors.BadToken span) h = absurd (h _ refl)
+memory_or_fault (errors.StrayClose span) h = absurd (h _ refl)
+memory_or_fault (errors.Unclosed span) h = absurd (h _ refl)
+memory_or_fault (errors.BadDot span) h = absurd (h _ refl)
+memory_or_fault (errors.TooDeep span) h = absurd (h _ refl)
+memory_or_fault (errors.ZeroDenominator span) h = absurd (h _ refl)
+memory_or_fault (errors.Label span) h = absurd (h _ refl)
 
 -- bytes whose fault was answered are no forms
-pub error_reads : (bytes : List ℕ) (e : ReadError) → IsFaultOf bytes e → (fs : List Datum) → Forms bytes fs → ⊥
-error_reads bytes e h fs forms = forms_apart bytes fs (fault_of e).0 h.0 forms h.1
+pub error_reads : (bytes : List ℕ) (e : ReadError) → IsFaultOf bytes e → (fs : List Datum) → Forms bytes fs → e ≡ errors.Memory
+error_reads bytes e err fs h =
+    memory_or_fault e (λ fault is. let found = subst (λ (o : Option (FaultKind × Span)). IfSome o (FaultAt bytes)) is err in forms_apart bytes fs fault.0 found.0 h found.1)
 
--- an answer that is the forms of the bytes
-abbrev pub forms_read : List Datum → Result (List Datum) ReadError
-forms_read fs = Ok fs
+-- bytes with a fault have no other one
+same_fault : (bytes : List ℕ) (k : FaultKind) (p : Place) (o : Option (FaultKind × Span)) → Fault bytes k p → IfSome o (FaultAt bytes) → IfSome o (λ x. x ≡ (k, span_at p))
+same_fault bytes k p None h found = tt
+same_fault bytes k p (Some x) h found =
+    let same = fault_same bytes x.0 k found.0 p found.1 h in
+    let spans : x.1 ≡ span_at p = found.2 ∙ ap span_at same.1 in
+    ap (λ (l : FaultKind). (l, x.1)) same.0 ∙ ap (λ (s : Span). (k, s)) spans
 
--- what was read of bytes is what they say
-pub forms_are : (bytes : List ℕ) (fs gs : List Datum) → Forms bytes fs → Forms bytes gs → forms_read fs ≡ forms_read gs
-forms_are bytes fs gs a b = ap forms_read (forms_same bytes fs gs a b)
+-- the fault of the bytes is the one that was answered
+pub error_refuses : (bytes : List ℕ) (e : ReadError) → IsFaultOf bytes e → (k : FaultKind) (p : Place) → Fault bytes k p → IfSome (fault_of e) (λ x. x ≡ (k, span_at p))
+error_refuses bytes e err k p h = same_fault bytes k p (fault_of e) h err

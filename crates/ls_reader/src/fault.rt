@@ -30,8 +30,8 @@ pub(crate) enum Failure {
     Fault(FaultKind, Place),
 }
 
-/// Why a text is not read: its first fault. The span of a fault begins and ends at its place, and has the line and the
-/// column of it.
+/// Why a text is not read: its first fault, or no memory. The span of a fault begins and ends at its place,
+/// and has the line and the column of it.
 #[derive(Debug, Drop, Error)]
 pub enum ReadError {
     /// The bytes are not UTF-8; the place is behind the longest front that is.
@@ -61,6 +61,9 @@ pub enum ReadError {
     /// A label, or a reference to one (2.4.8.15, 2.4.8.16).
     #[error("labels are not read")]
     Label(Span),
+    /// There was no memory for the data.
+    #[error("out of memory")]
+    Memory,
 }
 
 impl From<AllocError> for Stop {
@@ -107,23 +110,24 @@ impl<T: Drop> From<AllocFailed<T>> for Failure {
     }
 }
 
-impl ReadError {
+impl From<Failure> for ReadError {
     ghost use Rattle.std.specs.Prelude.{◌≡◌};
     ghost use Rattle.ls_reader.specs.Answers.{fault_of};
+    ghost use Rattle.ls_reader.specs.steps.Running.{fault_of_failure};
 
-    /// The fault of a kind, with its span.
-    pub(crate) fn of_kind(kind: FaultKind, span: Span) -> ReadError
-        ensures { fault_of result ≡ (kind, span) }
-    {
-        match kind {
-            FaultKind::NotUtf8 => ReadError::NotUtf8(span),
-            FaultKind::BadToken => ReadError::BadToken(span),
-            FaultKind::StrayClose => ReadError::StrayClose(span),
-            FaultKind::Unclosed => ReadError::Unclosed(span),
-            FaultKind::BadDot => ReadError::BadDot(span),
-            FaultKind::TooDeep => ReadError::TooDeep(span),
-            FaultKind::ZeroDenominator => ReadError::ZeroDenominator(span),
-            FaultKind::Label => ReadError::Label(span),
+    ghost from_gives = { λ failure e. fault_of e ≡ fault_of_failure failure };
+
+    fn from(failure: Failure) -> ReadError {
+        match failure {
+            Failure::Memory => ReadError::Memory,
+            Failure::Fault(FaultKind::NotUtf8, at) => ReadError::NotUtf8(at.span()),
+            Failure::Fault(FaultKind::BadToken, at) => ReadError::BadToken(at.span()),
+            Failure::Fault(FaultKind::StrayClose, at) => ReadError::StrayClose(at.span()),
+            Failure::Fault(FaultKind::Unclosed, at) => ReadError::Unclosed(at.span()),
+            Failure::Fault(FaultKind::BadDot, at) => ReadError::BadDot(at.span()),
+            Failure::Fault(FaultKind::TooDeep, at) => ReadError::TooDeep(at.span()),
+            Failure::Fault(FaultKind::ZeroDenominator, at) => ReadError::ZeroDenominator(at.span()),
+            Failure::Fault(FaultKind::Label, at) => ReadError::Label(at.span()),
         }
     }
 }

@@ -3,7 +3,7 @@ ghost use Rattle.std.specs.Str.{chars, IsUtf8, IsValidUpTo};
 ghost use Rattle.std.specs.Str.Lossy.{utf8_valid_len};
 ghost use Rattle.ls_reader.specs.Forms.{Forms, FormsIn};
 ghost use Rattle.ls_reader.specs.Faults.{Fault};
-ghost use Rattle.ls_reader.specs.Answers.{IsFaultOf, IsFault, HasForms, HasFault};
+ghost use Rattle.ls_reader.specs.Answers.{IsFaultOf, HasForms, HasFault, ReadsAs, IsFault};
 ghost use Rattle.ls_reader.specs.steps.Running.{reading, advance, Turns, IsSmall, IsWithin, failure_at, FailsIn, FailsAt};
 ghost use Rattle.ls_reader.specs.declared.datum.Datum.{Datum};
 ghost use Rattle.ls_reader.specs.declared.place.Place.{Place};
@@ -129,23 +129,22 @@ fn read(alloc: Global, bytes: &[u8]) -> Result<Items<Datum>, Failure>
 /// The data of a text in UTF-8 (2.2), or its first fault from left to right.
 ///
 /// A line is 1 plus the count of newlines before, and a column 1 plus the count of characters since the last newline.
-/// Lists, vectors, prefixes and `#` constructs that hold a datum may be 256 deep in one another. The fault is the one
-/// that is met first, each at the place that `ReadError` states. Fails where there is no memory for the data.
-pub fn read_text(alloc: Global, bytes: &[u8]) -> Result<Result<Items<Datum>, ReadError>, AllocError>
+/// Lists, vectors, prefixes and `#` constructs that hold a datum may be 256 deep in one another. Fails with the fault
+/// that is met first, each at the place that `ReadError` states, and with `Memory` where there is none for the data.
+pub fn read_text(alloc: Global, bytes: &[u8]) -> Result<Items<Datum>, ReadError>
     requires { length bytes.now ≤ 16777216 }
     // What is read is what the text says.
-    ensures ok { IfOk result (λ read. IfOk read (Forms bytes.now)) }
-    // What the text says is read.
-    ensures reads { (fs : List Datum) → Forms bytes.now fs → IfOk result (λ read. read ≡ Ok fs) }
+    ensures ok { IfOk result (Forms bytes.now) }
+    // What the text says is read, unless memory runs out.
+    ensures reads { (fs : List Datum) → Forms bytes.now fs → ReadsAs fs result }
     // The fault that is answered is that of the text, at its place.
-    ensures fault { IfOk result (λ read. IfErr read (IsFaultOf bytes.now)) }
-    // The fault that the text has is answered.
-    ensures refuses { (k : FaultKind) (place : Place) → Fault bytes.now k place → IfOk result (IsFault k place) }
+    ensures fault { IfErr result (IsFaultOf bytes.now) }
+    // The fault that the text has is answered, unless memory runs out.
+    ensures refuses { (k : FaultKind) (place : Place) → Fault bytes.now k place → IsFault k place result }
 {
     match read(alloc, bytes) {
-        Ok(forms) => Ok(Ok(forms)),
-        Err(Failure::Memory) => Err(AllocError),
-        Err(Failure::Fault(kind, at)) => Ok(Err(ReadError::of_kind(kind, at.span()))),
+        Ok(forms) => Ok(forms),
+        Err(failure) => Err(ReadError::from(failure)),
     }
 }
 

@@ -99,12 +99,12 @@ fn describe_symbol(out: &mut String, package_name: &str, name: &str) -> Result<(
     out.push_str(name)
 }
 
-/// The data of a text, or its fault; None where the text is too long, or there is no memory.
+/// The data of a text, or its fault; None where the text is too long.
 fn read(rt: &HostRuntime, text: &[u8]) -> Option<Result<Items<Datum>, ReadError>> {
     if text.len() > 16_777_216 {
         return None;
     }
-    read_text(rt.alloc(), text).ok()
+    Some(read_text(rt.alloc(), text))
 }
 
 /// What a text reads as, written out; None where it is not read.
@@ -115,9 +115,9 @@ fn reading(rt: &HostRuntime, text: &[u8], spans: bool) -> Option<String> {
     Some(out)
 }
 
-/// The kind of a fault, and its span.
-fn kind_of(error: &ReadError) -> (&'static str, Span) {
-    match error {
+/// The kind of a fault, and its span; None for want of memory.
+fn kind_of(error: &ReadError) -> Option<(&'static str, Span)> {
+    Some(match error {
         ReadError::NotUtf8(at) => ("not utf-8", *at),
         ReadError::BadToken(at) => ("bad token", *at),
         ReadError::StrayClose(at) => ("stray close", *at),
@@ -126,18 +126,19 @@ fn kind_of(error: &ReadError) -> (&'static str, Span) {
         ReadError::TooDeep(at) => ("too deep", *at),
         ReadError::ZeroDenominator(at) => ("zero denominator", *at),
         ReadError::Label(at) => ("label", *at),
-    }
+        ReadError::Memory => return None,
+    })
 }
 
 /// The fault of a text: its kind, byte, line and column, with the end of its span.
 fn fault(rt: &HostRuntime, text: &[u8]) -> (&'static str, u32, u32, u32, u32) {
     match read(rt, text) {
-        Some(Err(error)) => {
-            let (kind, at) = kind_of(&error);
-            (kind, at.start, at.end, at.line, at.column)
-        }
+        Some(Err(error)) => match kind_of(&error) {
+            Some((kind, at)) => (kind, at.start, at.end, at.line, at.column),
+            None => ("no memory", 0, 0, 0, 0),
+        },
         Some(Ok(_)) => ("none", 0, 0, 0, 0),
-        None => ("no memory", 0, 0, 0, 0),
+        None => ("too long", 0, 0, 0, 0),
     }
 }
 
@@ -435,7 +436,7 @@ fn large_texts(rt: HostRuntime) -> Result<(), Fail> {
 fn copies_and_sizes(rt: HostRuntime) -> Result<(), Fail> {
     let text = b"(a (b . c) #(1 'd) \"e\")";
     let data = read(&rt, text)
-        .ok_or("there is memory")?
+        .ok_or("the text is short")?
         .ok()
         .ok_or("the text is read")?;
     let datum = data.get(0).ok_or("there is a datum")?;

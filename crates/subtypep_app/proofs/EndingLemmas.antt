@@ -157,7 +157,7 @@ refused_not_read left text read report fs told is right short forms =
     let same : text ≡ read = IsTold-unique left text read told is in
     elim right [
       | inl long ↦ omega (arith, short, long.0, ap length same)
-      | inr fault ↦ error_reads read fault.1 fault.2.fault fs (subst (λ bytes. Forms bytes fs) same forms)
+      | inr fault ↦ fault.2.no_memory (error_reads read fault.1 fault.2.fault fs (subst (λ bytes. Forms bytes fs) same forms))
     ]
 
 -- with a command, a text that is told and no call that failed, a text with forms is answered and any other refused

@@ -95,6 +95,7 @@ fault_body (errors.BadDot span) = codes "BAD-DOT " ++ place_text span
 fault_body (errors.TooDeep span) = codes "TOO-DEEP " ++ place_text span
 fault_body (errors.ZeroDenominator span) = codes "ZERO-DENOMINATOR " ++ place_text span
 fault_body (errors.Label span) = codes "LABEL " ++ place_text span
+fault_body errors.Memory = []
 
 abbrev pub fault_text : ReadError → List ℕ
 fault_text e = codes "FAULT " ++ fault_body e ++ 10 ∷ []
@@ -104,6 +105,7 @@ too_long_text = codes "FAULT TOO-LONG" ++ 10 ∷ []
 
 -- the error is the fault of the text, at its place; a text with a fault has no forms
 pub record IsRefusedWith (text : List ℕ) (e : ReadError) : Type 0 where
+  pub no_memory : e ≡ errors.Memory → ⊥
   pub fault : IsFaultOf text e
 
 -- A text is answered by this status and this whole report, as characters.

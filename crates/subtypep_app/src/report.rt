@@ -70,6 +70,7 @@ fn push_fault_body(out: &mut Text, error: &ReadError) -> Result<(), AllocError>
         ReadError::TooDeep(span) => push_fault(out, "TOO-DEEP ", *span),
         ReadError::ZeroDenominator(span) => push_fault(out, "ZERO-DENOMINATOR ", *span),
         ReadError::Label(span) => push_fault(out, "LABEL ", *span),
+        ReadError::Memory => Ok(()),
     }
 }
 
@@ -99,8 +100,9 @@ pub(crate) fn report_of(alloc: Global, text: &[u8]) -> Result<Report, AllocError
     requires { length text.now ≤ limit }
     ensures { IfOk result (λ report. Answers text.now report.status report.text) }
 {
-    match read_text(alloc, text)? {
+    match read_text(alloc, text) {
         Ok(forms) => report_on(alloc, &forms),
+        Err(ReadError::Memory) => Err(AllocError),
         Err(error) => report_fault(alloc, &error),
     }
 }

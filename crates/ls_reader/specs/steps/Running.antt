@@ -1,14 +1,16 @@
 -- A reader's turn: it takes the lexeme at the front.
-use Rattle.std.specs.Prelude.{ℕ, ◌+◌, ◌-◌, ◌*◌, ◌^◌, ◌≤◌, ◌≡◌, List, length, take, Result, Ok, Err}
+use Rattle.std.specs.Prelude.{ℕ, ◌+◌, ◌-◌, ◌*◌, ◌^◌, ◌≤◌, ◌≡◌, List, length, take, Result, Ok, Err, Option, Some, None}
 use Rattle.ls_reader.specs.declared.place.Place.{Place}
 use Rattle.ls_reader.specs.declared.builder.Builder.{Builder}
+use Rattle.ls_reader.specs.declared.datum.Span.{Span}
+use Rattle.ls_reader.specs.declared.fault.FaultKind.{FaultKind}
 use Rattle.ls_reader.specs.declared.fault.Failure.{Failure}
 use Rattle.ls_reader.specs.declared.fault.Failure.TheVariants as failure
 use Rattle.ls_reader.specs.declared.fault.Stop.{Stop}
 use Rattle.ls_reader.specs.declared.fault.Stop.TheVariants as stop
 use Rattle.ls_reader.specs.declared.reader.Reader.{Reader}
 use Rattle.ls_reader.specs.declared.token.Token.{Token}
-use Rattle.ls_reader.specs.Places.{after_all}
+use Rattle.ls_reader.specs.Places.{after_all, span_at}
 use Rattle.ls_reader.specs.Faults.{Fault, FaultIn}
 use Rattle.ls_reader.specs.steps.Lexing.{LocalFault, lexeme}
 use Rattle.ls_reader.specs.steps.Building.{step, PlacedFault, FailsWith}
@@ -71,3 +73,8 @@ FailsIn cs (failure.Fault k place) = FaultIn cs k place
 abbrev pub FailsAt : List ℕ → Failure → Type 0
 FailsAt bytes failure.Memory = Unit {0}
 FailsAt bytes (failure.Fault k place) = Fault bytes k place
+
+-- the fault of a failure, with its empty span
+abbrev pub fault_of_failure : Failure → Option (FaultKind × Span)
+fault_of_failure failure.Memory = None
+fault_of_failure (failure.Fault kind at) = Some (kind, span_at at)
