@@ -6,7 +6,7 @@ use Rattle.std.specs.Cmp.Lexicographic.{pointwise}
 use Rattle.std.proofs.lemmas.Option.{get_or_from_slice_get, slice_get_within}
 use Rattle.std.proofs.lemmas.List.Folds.{list_any_at}
 use Rattle.std.proofs.lemmas.List.{map_push, length-map}
-use Rattle.ls_spec.proofs.TruthLemmas.{Decides-text}
+use Rattle.ls_object.proofs.SymbolLemmas.{Decides-text}
 use Rattle.ls_intern.specs.declared.node.Node.{Node}
 use Rattle.ls_intern.specs.Places.{at, node_specifier, PartsBelow, Distinct, Extends}
 use Rattle.ls_intern.specs.NodeKeys.{node_key}

@@ -5,6 +5,7 @@
 mod keys;
 mod node;
 mod table;
+mod tree;
 
 pub use node::{Id, Node};
 pub use table::Table;

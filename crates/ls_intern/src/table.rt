@@ -69,6 +69,11 @@ impl Table {
         &self.nodes[id]
     }
 
+    /// The allocator that the table takes its memory from.
+    pub(crate) fn allocator(&self) -> Global {
+        self.alloc
+    }
+
     /// The number of a node, which is put in behind the others if it isn't there. After a refusal the table is as
     /// before.
     fn put(&mut self, key: Vec<u128>, node: Node) -> Result<Id, AllocError>
