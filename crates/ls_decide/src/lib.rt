@@ -1,8 +1,17 @@
-//! The decision of inclusion (SUBTYPEP): its answers, and what a decision costs.
+//! The decision of inclusion (SUBTYPEP): its answers, and what a decision costs. The cost is counted over numbers of
+//! specifiers in a table, each distinct list of them once.
 #![tactic(auto)]
 
 mod answer;
+mod candidates;
+mod cost;
+mod counting;
+mod cut;
+mod ids;
+mod node;
 mod session;
+mod shapes;
+mod sides;
 
 pub use answer::Answer;
 pub use session::Session;
