@@ -8,7 +8,7 @@ use Rattle.ls_reader.specs.declared.datum.Form.TheFolds.{para-roll-Datum, para-r
 use Rattle.ls_env.specs.declared.operator.Operator.{Operator}
 use Rattle.ls_env.specs.declared.operator.Operator.TheVariants as operator
 use Rattle.ls_env.specs.declared.query.Query.{Query}
-use Rattle.ls_env.specs.Gathering.{gathered_by, gathered_form, gathered}
+use Rattle.ls_env.specs.steps.Gathering.{gathered_by, gathered_form, gathered}
 use Rattle.ls_env.specs.TopLevel.{inside_form, with_inside, top_of, entered, operator_of_list, inside_list, top_in, asked_by, asked_form, asked, query_with, queries_of}
 
 -- the top-level forms inside a form

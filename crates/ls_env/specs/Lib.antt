@@ -1,3 +1,6 @@
 pub mod TopLevel
 pub mod Environments
-pub mod Gathering
+pub mod Naming
+pub mod Arguments
+pub mod Lent
+pub mod steps

@@ -1,12 +1,15 @@
 ghost use Rattle.std.specs.Prelude.{◌≡◌, [], ◌∷◌, ◌++◌, drop, IfOk, OnOk};
 ghost use Rattle.ls_env.specs.TopLevel.{top_in, queries_of};
-ghost use Rattle.ls_env.specs.Gathering.{gathered};
+ghost use Rattle.ls_env.specs.steps.Gathering.{gathered};
 ghost use Rattle.ls_env.specs.Environments.{environment};
+ghost use Rattle.ls_env.specs.Naming.{quote_symbol, status_of};
 
 use crate::operator::{Operator, operator_of_list};
 use crate::query::{Query, QueryKind};
-use ls_object::Items;
+use crate::status::NameStatus;
+use ls_object::{Items, Symbol};
 use ls_reader::{Datum, Form};
+use ls_structs::Tree;
 use std::alloc::{AllocError, Global};
 use std::marker::Model;
 
@@ -14,6 +17,7 @@ use std::marker::Model;
 #[derive(Drop)]
 pub struct Env {
     queries: Items<Query>,
+    tree: Tree,
 }
 
 impl Model for Env {
@@ -25,7 +29,7 @@ impl Model for Env {
 
     ghost coded = { Prim.hlevel (codes, form.the_row.coded) };
 
-    ghost view = { λ e. record { queries = e.queries } };
+    ghost view = { λ e. record { queries = e.queries; structures = e.tree } };
 }
 
 impl Env {
@@ -35,7 +39,10 @@ impl Env {
     {
         let mut queries = Items::new(alloc);
         push_from(alloc, forms.as_slice(), 0, &mut queries)?;
-        Ok(Env { queries })
+        Ok(Env {
+            queries,
+            tree: Tree::new(alloc),
+        })
     }
 
     /// The queries of the file, in order.
@@ -43,6 +50,27 @@ impl Env {
         ensures { result.now ≡ self.now.queries }
     {
         &self.queries
+    }
+
+    /// The structure types of the file.
+    pub fn tree(&self) -> &Tree
+        ensures { result.now ≡ self.now.structures }
+    {
+        &self.tree
+    }
+
+    /// What the file says of a name that is not built in.
+    pub fn status(&self, _name: &Symbol) -> NameStatus
+        ensures { result ≡ status_of self.now _name.now }
+    {
+        NameStatus::Unknown
+    }
+
+    /// What the file says of the name QUOTE, the head of the list that `'x` stands for.
+    pub fn status_of_quote(&self) -> NameStatus
+        ensures { result ≡ status_of self.now quote_symbol }
+    {
+        NameStatus::Unknown
     }
 }
 

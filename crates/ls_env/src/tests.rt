@@ -1,5 +1,6 @@
 use super::*;
-use ls_reader::read_text;
+use ls_object::{Items, Symbol};
+use ls_reader::{Datum, read_text};
 use std::alloc::AllocError;
 use std::test::*;
 
@@ -15,12 +16,17 @@ fn describe(env: &Env, out: &mut String) -> Result<(), AllocError> {
     Ok(())
 }
 
-/// The queries of a text; None where it is not read.
-fn queries(rt: &HostRuntime, text: &str) -> Option<String> {
+/// The forms of a text; None where it is not read.
+fn forms_of(rt: &HostRuntime, text: &str) -> Option<Items<Datum>> {
     if text.len() > 1000 {
         return None;
     }
-    let forms = read_text(rt.alloc(), text.as_bytes()).ok()?;
+    read_text(rt.alloc(), text.as_bytes()).ok()
+}
+
+/// The queries of a text; None where it is not read.
+fn queries(rt: &HostRuntime, text: &str) -> Option<String> {
+    let forms = forms_of(rt, text)?;
     let env = Env::of_file(rt.alloc(), &forms).ok()?;
     let mut out = String::new(rt.alloc());
     describe(&env, &mut out).ok()?;
@@ -57,5 +63,45 @@ fn queries_of_texts(rt: HostRuntime) -> Result<(), Fail> {
         let found = queries(&rt, text).ok_or("the text is read")?;
         assert_eq!(rt; found.as_str(), want, "at {text:?}");
     }
+    Ok(())
+}
+
+/// What the argument of the form stands for: the column of its value, or 0 where it would have to be evaluated.
+fn value_column(rt: &HostRuntime, text: &str) -> Option<u32> {
+    let forms = forms_of(rt, text)?;
+    match value_of(forms.as_slice().first()?) {
+        Argument::Known(datum) => Some(datum.span.column),
+        Argument::Evaluated => Some(0),
+    }
+}
+
+const VALUES: [(&str, u32); 10] = [
+    ("'x", 2),
+    ("(quote x)", 8),
+    ("t", 1),
+    ("nil", 1),
+    (":x", 1),
+    ("x", 0),
+    ("keyword::quote", 1),
+    ("(quote x y)", 0),
+    ("(p::quote x)", 0),
+    ("1", 0),
+];
+
+#[test]
+fn values_of_arguments(rt: HostRuntime) -> Result<(), Fail> {
+    for (text, column) in VALUES {
+        let found = value_column(&rt, text).ok_or("the text is read")?;
+        assert_eq!(rt; found, column, "at {text:?}");
+    }
+    Ok(())
+}
+
+#[test]
+fn nothing_defines_names_or_structures(rt: HostRuntime) -> Result<(), Fail> {
+    let env = Env::of_file(rt.alloc(), &Items::new(rt.alloc()))?;
+    assert_eq!(rt; env.tree().parents().as_slice().len(), 0);
+    assert_eq!(rt; env.status(&Symbol::nil(rt.alloc())?), NameStatus::Unknown);
+    assert_eq!(rt; env.status_of_quote(), NameStatus::Unknown);
     Ok(())
 }

@@ -9,9 +9,10 @@ use Rattle.ls_env.specs.Environments.{Environment}
 use Rattle.ls_grammar.specs.declared.refusal.RefusalKind.TheVariants as kind
 use Rattle.ls_grammar.specs.declared.refusal.Refusal.{Refusal}
 use Rattle.ls_grammar.specs.Numbers.{refusal}
-use Rattle.ls_grammar.specs.Levels.{Level, refused, known, object, members, all_of, some_of, none_of, level}
+use Rattle.ls_grammar.specs.Levels.{Level, refused, known, object, members, all_of, some_of, none_of}
+use Rattle.ls_grammar.specs.Saying.{level, weight_of}
 use Rattle.ls_grammar.specs.Denoting.{eql_of, conjunction, disjunction, Each, IsEql, Says, DenotesIn, Denotes}
-use Rattle.ls_grammar.specs.Machine.{Outcome, next, enter, made, with_room, run_all, run_object, run_level, outcome}
+use Rattle.ls_grammar.specs.steps.Running.{Outcome, next, enter, made, with_room, run_all, run_object, run_level, outcome}
 
 -- what holds of an outcome's specifier, if it has one
 abbrev pub Means : {X : Type 0} → (X → Type 0) → Outcome X → Type 0
@@ -56,7 +57,7 @@ pub means_outcome : (env : Environment) (left : ℕ) (d : Datum) (room : ℕ) �
 unfolding outcome
 means_outcome env zero d room = tt
 means_outcome env (suc left) d room =
-    means_enter (DenotesIn env (suc left) d) d.span 1 room (run_level (outcome env left) (level env d)) (means_level (DenotesIn env left) (outcome env left) (means_outcome env left) (level env d))
+    means_enter (DenotesIn env (suc left) d) d.span (weight_of (level env d)) room (run_level (outcome env left) (level env d)) (means_level (DenotesIn env left) (outcome env left) (means_outcome env left) (level env d))
 
 -- ---- one specifier at most
 

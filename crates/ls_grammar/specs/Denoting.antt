@@ -12,7 +12,8 @@ use Rattle.ls_env.specs.Environments.{Environment}
 use Rattle.ls_grammar.specs.declared.refusal.RefusalKind.TheVariants as kind
 use Rattle.ls_grammar.specs.declared.refusal.Refusal.{Refusal}
 use Rattle.ls_grammar.specs.Numbers.{refusal, too_wide, written}
-use Rattle.ls_grammar.specs.Levels.{Level, refused, known, object, members, all_of, some_of, none_of, level}
+use Rattle.ls_grammar.specs.Levels.{Level, refused, known, object, members, all_of, some_of, none_of}
+use Rattle.ls_grammar.specs.Saying.{level}
 
 -- ---- the objects of MEMBER and EQL
 

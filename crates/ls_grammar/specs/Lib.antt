@@ -1,6 +1,7 @@
 pub mod Numbers
 pub mod Levels
+pub mod BuiltinLevels
+pub mod Saying
 pub mod Denoting
 pub mod Visiting
-pub mod Machine
-pub mod Looking
+pub mod steps

@@ -14,7 +14,6 @@ use Rattle.ls_reader.specs.declared.datum.Literal.TheVariants as literal
 use Rattle.ls_tables.specs.declared.name.Builtin.{Builtin}
 use Rattle.ls_tables.specs.declared.name.Builtin.TheVariants as name
 use Rattle.ls_tables.specs.Builtins.{builtin_of}
-use Rattle.ls_spec.specs.declared.limits.TheConstants.{LARGEST_NUMERATOR, LARGEST_DENOMINATOR}
 use Rattle.ls_spec.specs.declared.spec.RangeKind.{RangeKind}
 use Rattle.ls_spec.specs.declared.spec.Bound.{Bound}
 use Rattle.ls_spec.specs.declared.spec.Bound.TheVariants.{Free, Incl, Excl}
@@ -32,13 +31,9 @@ bad_bound at = refusal kind.BadBound at
 abbrev pub too_wide : Span → Refusal
 too_wide at = refusal kind.NumberTooWide at
 
--- a number that is not wide: its numerator is at most 2^64 in absolute value, its denominator at most 2^60
-abbrev pub is_small : Rat → Bool
-is_small r = nat_le (unsigned_abs r.num) LARGEST_NUMERATOR && nat_le r.den LARGEST_DENOMINATOR
-
 -- the number that is written, or none where it is wide
 abbrev pub written : Literal → Option Rat
-written (literal.Value small) = if is_small small.value then Some small.value else None
+written (literal.Value small) = Some small.value
 written literal.Wide = None
 
 abbrev pub whole_if : (z : ℤ) (fits : Bool) → nat_lt (unsigned_abs z) NUMERATOR_LIMIT ≡ fits → Rat

@@ -1,5 +1,6 @@
 -- What is visited in a datum, in order, and the first thing that is wrong.
-use Rattle.std.specs.Prelude.{ℕ, zero, suc, ◌≡◌, ◌+◌, ◌-◌, ◌⊎◌, nat_lt, if◌then◌else◌, List, [], ◌∷◌, Option, Some, None, Result, Ok, Err}
+use Rattle.std.specs.Prelude.{ℕ, zero, suc, ◌≡◌, ◌+◌, ◌-◌, ◌⊎◌, nat_lt, if◌then◌else◌, List, [], ◌∷◌, Option, Some, None}
+use Rattle.std.specs.Prelude.{Result, Ok, Err}
 use Rattle.std.specs.List.{flat_map}
 use Rattle.ls_reader.specs.declared.datum.Span.{Span}
 use Rattle.ls_reader.specs.declared.datum.Datum.{Datum}
@@ -9,10 +10,24 @@ use Rattle.ls_spec.specs.Meaning.{specifier}
 use Rattle.ls_env.specs.Environments.{Environment}
 use Rattle.ls_grammar.specs.declared.refusal.RefusalKind.TheVariants as kind
 use Rattle.ls_grammar.specs.declared.refusal.Refusal.{Refusal}
-use Rattle.ls_grammar.specs.declared.resolving.TheConstants.{DEEPEST, ROOM}
+use Rattle.ls_grammar.specs.declared.refusal.Stop.{Stop}
+use Rattle.ls_grammar.specs.declared.refusal.Stop.TheVariants as stop
 use Rattle.ls_grammar.specs.Numbers.{refusal}
-use Rattle.ls_grammar.specs.Levels.{Level, refused, known, object, members, all_of, some_of, none_of, level}
+use Rattle.ls_grammar.specs.Levels.{Level, refused, known, object, members, all_of, some_of, none_of}
+use Rattle.ls_grammar.specs.Saying.{level, weight_of}
 use Rattle.ls_grammar.specs.Denoting.{eql_of, Denotes}
+
+-- ---- the limits
+
+-- how deep a specifier may be nested
+abbrev pub deepest : ℕ
+deepest = 256
+
+-- how many specifiers and objects of MEMBER and EQL there may be in a specifier
+abbrev pub largest : ℕ
+largest = 262144
+
+-- ---- visits
 
 -- a visit of a specifier, or of an object of MEMBER or EQL
 pub record Visit : Type 0 where
@@ -34,7 +49,8 @@ error_of (Err x) = Some x
 abbrev pub object_visit : ℕ → Datum → Visit
 object_visit depth d = record { place = d.span; depth = depth; weight = 1; line = error_of (eql_of d) }
 
--- what is visited below one level: the objects of MEMBER and EQL at its own depth, and the parts of specifiers by `visits_of`
+-- what is visited below one level: the objects of MEMBER and EQL at its own depth, and the parts of specifiers by
+-- `visits_of`
 abbrev pub below : (Datum → List Visit) → ℕ → Level → List Visit
 below visits_of depth (refused x) = []
 below visits_of depth (known s) = []
@@ -49,49 +65,54 @@ below visits_of depth (none_of d) = visits_of d
 unfoldable pub visits : Environment → ℕ → ℕ → Datum → List Visit
 visits env zero depth d = record { place = d.span; depth = depth; weight = 1; line = None } ∷ []
 visits env (suc left) depth d =
-    record { place = d.span; depth = depth; weight = 1; line = line_of (level env d) }
+    record { place = d.span; depth = depth; weight = weight_of (level env d); line = line_of (level env d) }
     ∷ below (visits env left (depth + 1)) depth (level env d)
 
 -- the first thing that is wrong at a visit, with so much room left
 abbrev pub refused_at : Visit → ℕ → Option Refusal
 refused_at v room =
-    if nat_lt DEEPEST v.depth then Some (refusal kind.TooDeep v.place)
+    if nat_lt deepest v.depth then Some (refusal kind.TooDeep v.place)
     else (if nat_lt room v.weight then Some (refusal kind.TooManyNodes v.place) else v.line)
 
-abbrev pub or_else : Option Refusal → Option Refusal → Option Refusal
-or_else None r = r
-or_else (Some x) r = Some x
+-- the earlier of two refusals
+abbrev pub earlier : Option Refusal → Option Refusal → Option Refusal
+earlier None r = r
+earlier (Some x) r = Some x
 
 -- the first thing that is wrong along the visits; each takes its weight from the room
 abbrev pub first : List Visit → ℕ → Option Refusal
 first [] room = None
-first (v ∷ vs) room = or_else (refused_at v room) (first vs (room - v.weight))
+first (v ∷ vs) room = earlier (refused_at v room) (first vs (room - v.weight))
 
 -- the first thing that is wrong with a datum as a specifier
 abbrev pub refusal_of : Environment → Datum → Option Refusal
-refusal_of env d = first (visits env DEEPEST 1 d) ROOM
+refusal_of env d = first (visits env deepest 1 d) largest
 
 -- the datum resolves to the specifier: it denotes it, and nothing is wrong
 pub record Resolves (env : Environment) (d : Datum) (s : Specifier) : Type 0 where
   pub unrefused : refusal_of env d ≡ None
   pub denotes : Denotes env d s
 
+-- The datum resolves to a specifier, or it has a refusal: nothing falls between.
+abbrev pub ResolvesOrIsRefused : Environment → Datum → Type 0
+ResolvesOrIsRefused env d =
+    ((s : Specifier) × Resolves env d s) ⊎ ((x : Refusal) × (refusal_of env d ≡ Some x))
+
 -- ---- answers
 
--- want of memory has the place of the whole datum
-abbrev pub out_of_memory : Datum → Refusal
-out_of_memory d = refusal kind.Memory d.span
-
--- the refusal is the first thing that is wrong, or want of memory
-abbrev pub IsRefusal : Environment → Datum → Refusal → Type 0
-IsRefusal env d x = (x ≡ out_of_memory d) ⊎ (refusal_of env d ≡ Some x)
+-- the reason is the first thing that is wrong, or want of memory
+abbrev pub IsReason : Environment → Datum → Stop → Type 0
+IsReason env d stop.Memory = Unit {0}
+IsReason env d (stop.Refused x) = refusal_of env d ≡ Some x
 
 -- the answer is this specifier, or want of memory
-abbrev pub AnswersAs : Datum → Specifier → Result Spec Refusal → Type 0
-AnswersAs d s (Ok t) = specifier t ≡ s
-AnswersAs d s (Err x) = x ≡ out_of_memory d
+abbrev pub AnswersWith : Specifier → Result Spec Stop → Type 0
+AnswersWith s (Ok t) = specifier t ≡ s
+AnswersWith s (Err stop.Memory) = Unit {0}
+AnswersWith s (Err (stop.Refused x)) = ⊥
 
 -- the answer is this refusal, or want of memory
-abbrev pub RefusesAs : Datum → Refusal → Result Spec Refusal → Type 0
-RefusesAs d x (Ok t) = ⊥
-RefusesAs d x (Err y) = (y ≡ out_of_memory d) ⊎ (y ≡ x)
+abbrev pub RefusesWith : Refusal → Result Spec Stop → Type 0
+RefusesWith x (Ok t) = ⊥
+RefusesWith x (Err stop.Memory) = Unit {0}
+RefusesWith x (Err (stop.Refused y)) = y ≡ x

@@ -2,13 +2,18 @@
 //! is told with its place.
 #![tactic(auto)]
 
-mod look;
-mod number;
+// Why a datum is no specifier.
 mod refusal;
+
+// What a datum says one level deep.
+mod level;
+mod number;
+
+// The whole of it, level by level.
 mod resolving;
 
-pub use refusal::{Refusal, RefusalKind};
-pub use resolving::{DEEPEST, ROOM, resolve};
+pub use refusal::{Refusal, RefusalKind, Stop};
+pub use resolving::{DEEPEST, ROOM, each_datum_resolves_or_is_refused, resolve};
 
 #[cfg(test)]
 mod tests;

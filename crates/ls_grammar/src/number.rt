@@ -1,6 +1,6 @@
 // Bounds and sizes of specifiers.
 
-ghost use Rattle.std.specs.Prelude.{◌≡◌, ◌^◌, ◌≤◌, ◌<◌, pos, unsigned_abs, IfOk, IfSome, IsTrue};
+ghost use Rattle.std.specs.Prelude.{◌≡◌, ◌^◌, ◌≤◌, ◌<◌, pos, unsigned_abs, IfOk, IfSome};
 ghost use Rattle.ls_reader.specs.declared.datum.Form.{out-Form};
 ghost use Rattle.ls_spec.specs.Membership.{is_of_range_kind};
 ghost use Rattle.ls_grammar.specs.Numbers as spec;
@@ -8,7 +8,7 @@ ghost use Rattle.ls_grammar.specs.Numbers as spec;
 use crate::refusal::{Refusal, RefusalKind};
 use ls_object::Rat;
 use ls_reader::{Datum, Form, Literal, Span};
-use ls_spec::{Bound, LARGEST_DENOMINATOR, LARGEST_NUMERATOR, RangeKind};
+use ls_spec::{Bound, RangeKind};
 use ls_tables::{Builtin, builtin};
 
 pub(crate) fn refusal(kind: RefusalKind, place: Span) -> Refusal
@@ -17,23 +17,13 @@ pub(crate) fn refusal(kind: RefusalKind, place: Span) -> Refusal
     Refusal { kind, place }
 }
 
-fn is_small(number: &Rat) -> bool
-    ensures { result ≡ spec.is_small number.now }
-{
-    number.num.unsigned_abs() <= LARGEST_NUMERATOR && number.den <= LARGEST_DENOMINATOR
-}
-
 /// The number that is written; None where it is past the limits.
 pub(crate) fn written(literal: &Literal) -> Option<Rat>
     ensures value { result ≡ spec.written literal.now }
-    ensures small { IfSome result (λ r. IsTrue (spec.is_small r)) }
+    ensures small { IfSome result (λ r. unsigned_abs r.num ≤ 2 ^ 64) }
 {
     match literal {
-        Literal::Value(small) => if is_small(&small.value) {
-            Some(small.value)
-        } else {
-            None
-        },
+        Literal::Value(small) => Some(small.value),
         Literal::Wide => None,
     }
 }
@@ -147,9 +137,9 @@ fn is_positive(number: &Rat) -> bool
 }
 
 fn size_number(at: Span, number: Option<Rat>) -> Result<u128, Refusal>
-    requires { IfSome number (λ r. IsTrue (spec.is_small r)) }
+    requires { IfSome number (λ r. unsigned_abs r.num ≤ 2 ^ 64) }
     ensures value { result ≡ spec.size_number at number }
-    ensures limits { IfOk result (spec.IsSizeWithin LARGEST_NUMERATOR) }
+    ensures limits { IfOk result (spec.IsSizeWithin (2 ^ 64)) }
 {
     match number {
         None => Err(refusal(RefusalKind::NumberTooWide, at)),
@@ -164,7 +154,7 @@ fn size_number(at: Span, number: Option<Rat>) -> Result<u128, Refusal>
 /// A size, which is an integer of at least 1, or what is wrong with it.
 pub(crate) fn size_of(datum: &Datum) -> Result<u128, Refusal>
     ensures value { result ≡ spec.size_of datum.now }
-    ensures limits { IfOk result (spec.IsSizeWithin LARGEST_NUMERATOR) }
+    ensures limits { IfOk result (spec.IsSizeWithin (2 ^ 64)) }
 {
     match &datum.form {
         Form::Number(literal) => size_number(datum.span, written(literal)),

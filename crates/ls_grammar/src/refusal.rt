@@ -35,9 +35,6 @@ pub enum RefusalKind {
     /// The count of specifiers and objects passes the limit.
     #[error("the type specifier is too large")]
     TooManyNodes,
-    /// There was no memory for the specifier.
-    #[error("out of memory")]
-    Memory,
     /// A type specifier that is not supported.
     #[error("this type specifier is not supported")]
     NotBuilt,
@@ -51,10 +48,12 @@ pub struct Refusal {
     pub place: Span,
 }
 
-/// Why resolving stops.
+/// Why a datum was not resolved.
 #[derive(Debug, Drop)]
-pub(crate) enum Stop {
+pub enum Stop {
+    /// There was no memory for the specifier.
     Memory,
+    /// The datum is no type specifier.
     Refused(Refusal),
 }
 

@@ -1,16 +1,18 @@
 // From a datum to the specifier that it denotes, or the first thing that is wrong with it.
 
-ghost use Rattle.std.specs.Prelude.{◌≡◌, [], map, Some, IfOk, IfErr};
+ghost use Rattle.std.specs.Prelude.{◌≡◌, map, Some, IfOk, IfErr};
+ghost use Rattle.ls_reader.specs.declared.datum.Datum.{Datum};
+ghost use Rattle.ls_env.specs.Environments.{Environment};
 ghost use Rattle.ls_spec.specs.Specifier.{Specifier, eql_to};
 ghost use Rattle.ls_spec.specs.Meaning.{specifier};
 ghost use Rattle.ls_spec.specs.Fits.{Fits};
 ghost use Rattle.ls_grammar.specs.declared.refusal.Refusal.{Refusal};
 ghost use Rattle.ls_grammar.specs.Denoting.{eql_of, number_point};
-ghost use Rattle.ls_grammar.specs.Looking.{seen, IsExpandable, Steps, Gives, answered, stopped};
-ghost use Rattle.ls_grammar.specs.Machine.{run_object, run_all, run_level, outcome};
-ghost use Rattle.ls_grammar.specs.Visiting.{Resolves, IsRefusal, AnswersAs, RefusesAs, refusal_of};
+ghost use Rattle.ls_grammar.specs.steps.Answering.{shown, IsExpandable, Steps, Gives, stopped};
+ghost use Rattle.ls_grammar.specs.steps.Running.{run_object, run_all, run_level, outcome};
+ghost use Rattle.ls_grammar.specs.Visiting.{Resolves, IsReason, AnswersWith, RefusesWith, ResolvesOrIsRefused, refusal_of};
 
-use crate::look::{Look, look_at};
+use crate::level::{Level, level_of};
 use crate::number::{refusal, written};
 use crate::refusal::{Refusal, RefusalKind, Stop};
 use ls_env::Env;
@@ -93,22 +95,22 @@ fn resolve_all(
 fn resolve_at(
     alloc: Global,
     env: &Env,
-    look: Look<'_>,
+    level: Level<'_>,
     left: u32,
     room: &mut u64,
 ) -> Result<Spec, Stop>
-    requires { IsExpandable look }
-    ensures { Steps specifier result room.new (run_level (outcome env.now left) (seen look.entry) room.old) }
+    requires { IsExpandable level }
+    ensures { Steps specifier result room.new (run_level (outcome env.now left) (shown level.entry) room.old) }
 {
-    match look {
-        Look::Refused(why) => Err(Stop::Refused(why)),
-        Look::Known(spec) => Ok(spec),
-        Look::Named(name) => Ok(of_builtin(alloc, name)?),
-        Look::Object(object) => resolve_object(object, room),
-        Look::Members(objects) => Ok(Spec::Or(resolve_objects(alloc, objects, room)?)),
-        Look::AllOf(parts) => Ok(Spec::And(resolve_all(alloc, env, parts, left, room)?)),
-        Look::SomeOf(parts) => Ok(Spec::Or(resolve_all(alloc, env, parts, left, room)?)),
-        Look::NoneOf(part) => {
+    match level {
+        Level::Refused(why) => Err(Stop::Refused(why)),
+        Level::Known(spec) => Ok(spec),
+        Level::Named(name) => Ok(of_builtin(alloc, name)?),
+        Level::Object(object) => resolve_object(object, room),
+        Level::Members(objects) => Ok(Spec::Or(resolve_objects(alloc, objects, room)?)),
+        Level::AllOf(parts) => Ok(Spec::And(resolve_all(alloc, env, parts, left, room)?)),
+        Level::SomeOf(parts) => Ok(Spec::Or(resolve_all(alloc, env, parts, left, room)?)),
+        Level::NoneOf(part) => {
             let part = resolve_in(alloc, env, part, left, room)?;
             Ok(Spec::Not(Boxed::new(alloc, part)?))
         }
@@ -116,7 +118,7 @@ fn resolve_at(
 }
 
 #[cycle(resolve)]
-#[tactic(auto, using(crate::proofs::OutcomeLemmas::outcome_none, crate::proofs::OutcomeLemmas::outcome_some))]
+#[tactic(auto, using(crate::proofs::OutcomeLemmas::outcome_none))]
 fn resolve_in(
     alloc: Global,
     env: &Env,
@@ -129,34 +131,29 @@ fn resolve_in(
     if left == 0 {
         return Err(stopped(RefusalKind::TooDeep, datum.span));
     }
-    if *room == 0 {
+    let level = level_of(env, datum);
+    let weight = level.weight();
+    if *room < weight {
         return Err(stopped(RefusalKind::TooManyNodes, datum.span));
     }
-    *room -= 1;
-    resolve_at(alloc, env, look_at(env, datum), left - 1, room)
+    *room -= weight;
+    resolve_at(alloc, env, level, left - 1, room)
 }
 
-/// The answer on a datum at this place.
-fn answered(at: Span, found: Result<Spec, Stop>) -> Result<Spec, Refusal>
-    ensures { result ≡ answered at found }
-{
-    match found {
-        Ok(spec) => Ok(spec),
-        Err(Stop::Memory) => Err(refusal(RefusalKind::Memory, at)),
-        Err(Stop::Refused(why)) => Err(why),
-    }
-}
+/// Each datum resolves, under each environment, or has a refusal. The body is empty, since this is a law.
+pub fn each_datum_resolves_or_is_refused()
+    ensures { (env : Environment) (d : Datum) → ResolvesOrIsRefused env d }
+{}
 
-/// The specifier that the datum denotes, or the first thing that is wrong with it as a specifier. `Memory`, with the
-/// place of the datum, comes where there was no memory for the specifier.
-pub fn resolve(alloc: Global, env: &Env, datum: &Datum) -> Result<Spec, Refusal>
+/// The specifier that the datum denotes, or the first thing that is wrong with it as a specifier (4.2.3). `Memory`
+/// comes where there was no memory for the specifier.
+pub fn resolve(alloc: Global, env: &Env, datum: &Datum) -> Result<Spec, Stop>
     ensures ok { IfOk result (λ s. Resolves env.now datum.now (specifier s)) }
-    ensures err { IfErr result (IsRefusal env.now datum.now) }
-    ensures answers { (s : Specifier) → Resolves env.now datum.now s → AnswersAs datum.now s result }
-    ensures refuses { (x : Refusal) → refusal_of env.now datum.now ≡ Some x → RefusesAs datum.now x result }
-    ensures fits { IfOk result (λ s. Fits [] (specifier s)) }
+    ensures err { IfErr result (IsReason env.now datum.now) }
+    ensures answers { (s : Specifier) → Resolves env.now datum.now s → AnswersWith s result }
+    ensures refuses { (x : Refusal) → refusal_of env.now datum.now ≡ Some x → RefusesWith x result }
+    ensures fits { IfOk result (λ s. Fits env.now.structures (specifier s)) }
 {
     let mut room = ROOM;
-    let found = resolve_in(alloc, env, datum, DEEPEST, &mut room);
-    answered(datum.span, found)
+    resolve_in(alloc, env, datum, DEEPEST, &mut room)
 }

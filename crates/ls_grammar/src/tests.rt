@@ -1,7 +1,7 @@
 use super::*;
 use ls_env::Env;
-use ls_object::{Items, Rat, Symbol, Text};
-use ls_reader::{Datum, FloatFormat, Form, Literal, SmallRat, Span, read_text};
+use ls_object::Rat;
+use ls_reader::read_text;
 use ls_spec::{Bound, Point, RangeKind, Spec};
 use std::alloc::AllocError;
 use std::test::*;
@@ -82,27 +82,33 @@ fn write_spec(out: &mut String, spec: &Spec) -> Result<(), AllocError> {
     }
 }
 
-/// What the datum resolves to, or the refusal with its column.
-fn resolved(rt: &HostRuntime, env: &Env, datum: &Datum) -> Result<String, AllocError> {
+/// What the datum resolved to, or the refusal with its column.
+fn describe(rt: &HostRuntime, found: &Result<Spec, Stop>) -> Result<String, AllocError> {
     let mut out = String::new(rt.alloc());
-    match resolve(rt.alloc(), env, datum) {
-        Ok(spec) => write_spec(&mut out, &spec)?,
-        Err(refusal) => write!(&mut out, "{:?} {}", refusal.kind, refusal.place.column)?,
+    match found {
+        Ok(spec) => write_spec(&mut out, spec)?,
+        Err(Stop::Refused(refusal)) => write!(
+            &mut out,
+            "{:?} {}",
+            refusal.kind, refusal.place.column
+        )?,
+        Err(Stop::Memory) => return Err(AllocError),
     }
     Ok(out)
 }
 
-/// The same of the first datum of a text; None where it has none.
+/// What the first datum of a text resolves to; None where it has none.
 fn resolution(rt: &HostRuntime, text: &str) -> Option<String> {
     if text.len() > 1_000_000 {
         return None;
     }
     let forms = read_text(rt.alloc(), text.as_bytes()).ok()?;
     let env = Env::of_file(rt.alloc(), &forms).ok()?;
-    resolved(rt, &env, forms.as_slice().first()?).ok()
+    let found = resolve(rt.alloc(), &env, forms.as_slice().first()?);
+    describe(rt, &found).ok()
 }
 
-const RESOLVED: [(&str, &str); 24] = [
+const RESOLVED: [(&str, &str); 27] = [
     ("t", "all"),
     ("nil", "nothing"),
     ("null", "NIL"),
@@ -132,13 +138,16 @@ const RESOLVED: [(&str, &str); 24] = [
     ),
     ("(member * nil integer 1)", "(or * NIL INTEGER 1)"),
     ("(eql cons)", "CONS"),
+    ("(eql #\\a)", "char 97"),
+    ("(eql -2/4)", "-1/2"),
+    ("(rational 1/2)", "rational:1/2..*"),
     ("(float * *)", "(or SingleFloat DoubleFloat)"),
     ("real", "(or rational:*..* (or SingleFloat DoubleFloat))"),
     ("(complex *)", "Complex"),
     ("function", "(or Function CompiledFunction)"),
 ];
 
-const REFUSED: [(&str, &str); 46] = [
+const REFUSED: [(&str, &str); 51] = [
     ("(float 1 2 3)", "FloatRange 1"),
     ("(or t (real 0))", "FloatRange 7"),
     ("(long-float * * *)", "BadArgument 1"),
@@ -176,6 +185,11 @@ const REFUSED: [(&str, &str); 46] = [
     ("(member a 18446744073709551617 (b))", "NumberTooWide 11"),
     ("(member a (b) *)", "MemberObject 11"),
     ("(eql 'a)", "MemberObject 6"),
+    ("(eql 1.0)", "MemberObject 6"),
+    ("(rational 1d0)", "BadBound 11"),
+    ("(integer 1/2)", "BadBound 10"),
+    ("(mod 3/2)", "BadBound 6"),
+    ("(mod -1/1152921504606846977)", "NumberTooWide 6"),
     ("*", "StarNotAllowed 1"),
     ("(or integer *)", "StarNotAllowed 13"),
     ("(and cons *)", "NotBuilt 6"),
@@ -245,78 +259,5 @@ fn room(rt: HostRuntime) -> Result<(), Fail> {
     let text = many(&rt, 262_144)?;
     let found = resolution(&rt, &text).ok_or("the text is read")?;
     assert_eq!(rt; found.as_str(), "TooManyNodes 524295");
-    Ok(())
-}
-
-/// A datum that stands at this column.
-fn at(column: u32, form: Form) -> Datum {
-    let span = Span {
-        start: 0,
-        end: 0,
-        line: 1,
-        column,
-    };
-    Datum { span, form }
-}
-
-/// A list of a symbol of COMMON-LISP, at column 2, and one argument, at column 7.
-fn list_of(rt: &HostRuntime, head: &str, argument: Form) -> Result<Datum, AllocError> {
-    let name = Text::of(rt.alloc(), head)?;
-    let head = Symbol::of_common_lisp(rt.alloc(), name)?;
-    let mut items = Items::new(rt.alloc());
-    items.push(at(2, Form::Symbol(head)))?;
-    items.push(at(7, argument))?;
-    Ok(at(1, Form::List(items)))
-}
-
-/// What such a list resolves to.
-fn made(rt: &HostRuntime, head: &str, argument: Form) -> Result<String, AllocError> {
-    let env = Env::of_file(rt.alloc(), &Items::new(rt.alloc()))?;
-    resolved(rt, &env, &list_of(rt, head, argument)?)
-}
-
-/// A number n/d, or a wide one where that is past the limits.
-fn ratio(num: i128, den: u128) -> Form {
-    let small = match Rat::new(num, den) {
-        Some(number) => SmallRat::new(number),
-        None => None,
-    };
-    match small {
-        Some(small) => Form::Number(Literal::Value(small)),
-        None => Form::Number(Literal::Wide),
-    }
-}
-
-#[test]
-fn data_of_other_forms(rt: HostRuntime) -> Result<(), Fail> {
-    assert_eq!(rt; made(&rt, "EQL", Form::Char('a'))?.as_str(), "char 97");
-    let single = Form::Float(FloatFormat::Single);
-    assert_eq!(rt; made(&rt, "EQL", single)?.as_str(), "MemberObject 7");
-    let double = Form::Float(FloatFormat::Double);
-    assert_eq!(rt; made(&rt, "RATIONAL", double)?.as_str(), "BadBound 7");
-    Ok(())
-}
-
-#[test]
-fn ratios(rt: HostRuntime) -> Result<(), Fail> {
-    assert_eq!(rt; made(&rt, "EQL", ratio(-2, 4))?.as_str(), "-1/2");
-    assert_eq!(rt;
-        made(&rt, "RATIONAL", ratio(1, 2))?.as_str(),
-        "rational:1/2..*"
-    );
-    assert_eq!(rt; made(&rt, "INTEGER", ratio(1, 2))?.as_str(), "BadBound 7");
-    assert_eq!(rt; made(&rt, "MOD", ratio(3, 2))?.as_str(), "BadBound 7");
-    Ok(())
-}
-
-/// Values past the limits of written numbers count as wide ones, whatever their kind is.
-#[test]
-fn wide_numbers(rt: HostRuntime) -> Result<(), Fail> {
-    let long = ratio(1, (1 << 60) + 1);
-    assert_eq!(rt; made(&rt, "EQL", long)?.as_str(), "NumberTooWide 7");
-    let large = ratio((1 << 64) + 1, 2);
-    assert_eq!(rt; made(&rt, "INTEGER", large)?.as_str(), "NumberTooWide 7");
-    let wide = ratio(-1, 1 << 62);
-    assert_eq!(rt; made(&rt, "MOD", wide)?.as_str(), "NumberTooWide 7");
     Ok(())
 }

@@ -11,7 +11,7 @@ use Rattle.ls_spec.specs.Regions.{AreInSameAtoms}
 use Rattle.ls_spec.proofs.DistinctLemmas.{all_from_distinct, all_of_distinct}
 use Rattle.ls_spec.proofs.AlikeLemmas.{AllByRecursion-front, AllByRecursion-back}
 use Rattle.ls_spec.proofs.ListLemmas.{AllByRecursion-append}
-use Rattle.subtypep_app.specs.Searching.{AreAtomsOfTwo}
+use Rattle.subtypep_app.specs.steps.Searching.{AreAtomsOfTwo}
 
 mutual
   -- two objects that are in the same atoms of a specifier are in the specifier alike

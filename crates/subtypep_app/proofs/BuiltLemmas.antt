@@ -10,8 +10,8 @@ use Rattle.ls_spec.specs.Fits.{IsAtom, HasSmallNumbers, HaveSmallNumbers, IsWith
 use Rattle.ls_spec.specs.Membership.{Belongs}
 use Rattle.ls_spec.specs.SelfContained.{IsSelfContained, AreSelfContained}
 use Rattle.ls_spec.proofs.ListLemmas.{AllByRecursion-append}
-use Rattle.subtypep_app.specs.Built.{IsBuilt, AreBuilt}
-use Rattle.subtypep_app.specs.Searching.{IsCompound}
+use Rattle.subtypep_app.specs.steps.Built.{IsBuilt, AreBuilt}
+use Rattle.subtypep_app.specs.steps.Searching.{IsCompound}
 
 mutual
   -- they name no structure and no element type

@@ -6,4 +6,6 @@ mod SearchLemmas
 mod DenotedLemmas
 mod LineLemmas
 mod ReportLemmas
+mod ToldLemmas
 mod EndingLemmas
+mod CalmLemmas

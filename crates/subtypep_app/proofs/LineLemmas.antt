@@ -13,16 +13,16 @@ use Rattle.ls_spec.specs.Specifier.{Specifier}
 use Rattle.ls_env.specs.Environments.{Environment, environment}
 use Rattle.ls_grammar.specs.declared.refusal.Refusal.{Refusal}
 use Rattle.ls_grammar.specs.Denoting.{Denotes}
-use Rattle.ls_grammar.specs.Visiting.{refusal_of, or_else}
+use Rattle.ls_grammar.specs.Visiting.{refusal_of, earlier}
 use Rattle.ls_grammar.proofs.MeaningLemmas.{denotes_one}
 use Rattle.subtypep_app.specs.declared.answer.Answer.{Answer}
 use Rattle.subtypep_app.specs.declared.answer.Answer.TheVariants.{Yes, No, Unsure}
+use Rattle.subtypep_app.specs.Answers.{IsRight}
 use Rattle.subtypep_app.specs.declared.line.Line.{Line}
 use Rattle.subtypep_app.specs.declared.line.Line.TheVariants.{Answered, Refused}
-use Rattle.subtypep_app.specs.Answers.{IsRight}
-use Rattle.subtypep_app.specs.Queries.{Question, inclusion, refused, question_of, refusal_of_question, queries, structures_of}
-use Rattle.subtypep_app.specs.Report.{IsReport, IsRightLine}
-use Rattle.subtypep_app.specs.Endings.{IsDecided, IsLineFor, AllDecided}
+use Rattle.subtypep_app.specs.Queries.{Question, inclusion, refused, question_of, refusal_of_question}
+use Rattle.subtypep_app.specs.Report.{IsReport, IsRightLine, IsLineOf}
+use Rattle.subtypep_app.specs.Deciding.{IsDecided, IsLineFor, AllDecided}
 
 -- where two lists are alike item by item, there is an item of the second at each place of the first
 zip_get : {A B : Type 0} (R : A → B → Type 0) (xs : List A) (ys : List B) (i : ℕ) (x : A) → AllZip R xs ys → slice_get xs i ≡ Some x
@@ -54,26 +54,27 @@ IsDecided-from_right structures a b (Unsure o) right = record {
   sure = λ free_a free_b _. absurd (sure-no_predicate structures a b (lisp_object o) free_a free_b right);
 }
 
-no_refusal : (r s : Option Refusal) (x : Refusal) → r ≡ None → s ≡ None → or_else r s ≡ Some x → ⊥
-no_refusal r s x e f g = (let none : or_else r s ≡ None = ap (λ o. or_else o s) e ∙ f in cc)
+no_refusal : (r s : Option Refusal) (x : Refusal) → r ≡ None → s ≡ None → earlier r s ≡ Some x → ⊥
+no_refusal r s x e f g = (let none : earlier r s ≡ None = ap (λ o. earlier o s) e ∙ f in cc)
 
 -- a right line is for its question
-IsLineFor-from_right : (structures : Structures) (env : Environment) (question : Question) (line : Line) → IsRightLine structures env question line → IsLineFor structures env question line
-IsLineFor-from_right structures env question (Refused y) right = record {
+IsLineFor-from_right : (env : Environment) (question : Question) (line : Line) → IsRightLine env question line → IsLineFor env question line
+IsLineFor-from_right env question (Refused y) right = record {
   decided = λ a b s t is first second. absurd (no_refusal (refusal_of env a) (refusal_of env b) y first.unrefused second.unrefused (sym (ap (refusal_of_question env) is) ∙ right));
   refused = λ x is. (let same : Some y ≡ Some x = sym right ∙ is in cc);
 }
-IsLineFor-from_right structures env (inclusion a b) (Answered answer) right = record {
+IsLineFor-from_right env (inclusion a b) (Answered answer) right = record {
   decided = λ c d s t is first second.
       (let same : inclusion a b ≡ inclusion c d = is in
       let one : a ≡ c = cc in
       let other : b ≡ d = cc in
       let s_is : right.0 ≡ s = denotes_one env c right.0 s (subst (λ e. Denotes env e right.0) one right.2.denotes) first.denotes in
       let t_is : right.1 ≡ t = denotes_one env d right.1 t (subst (λ e. Denotes env e right.1) other right.3.denotes) second.denotes in
-      IsDecided-from_right structures s t answer (subst (λ u. IsRight structures s u answer) t_is (subst (λ u. IsRight structures u right.1 answer) s_is right.4)));
+      let first_is = subst (λ u. IsRight env.structures u right.1 answer) s_is right.4 in
+      IsDecided-from_right env.structures s t answer (subst (λ u. IsRight env.structures s u answer) t_is first_is));
   refused = λ x is. absurd (no_refusal (refusal_of env a) (refusal_of env b) x right.2.unrefused right.3.unrefused is);
 }
-IsLineFor-from_right structures env (refused x) (Answered answer) right = absurd right
+IsLineFor-from_right env (refused x) (Answered answer) right = absurd right
 
 -- a right report whose UTF-8 the sink took decides each query
 pub AllDecided-from_report : (fs : List Datum) (found : Bool) (report : List ℕ) (before now : Option (List ℕ))
@@ -81,8 +82,8 @@ pub AllDecided-from_report : (fs : List Datum) (found : Bool) (report : List ℕ
 AllDecided-from_report fs found report before now r took = record {
   lines = r.lines;
   taken = subst (λ text. Took before now (encode_utf8_all text)) r.text took;
-  count = AllZip-long (λ query line. IsRightLine (structures_of fs) (environment fs) (question_of query) line) (queries fs) r.lines r.right;
+  count = AllZip-long (IsLineOf (environment fs)) (environment fs).queries r.lines r.right;
   each = λ i query here.
-      (let there = zip_get (λ query line. IsRightLine (structures_of fs) (environment fs) (question_of query) line) (queries fs) r.lines i query r.right here in
-      (there.0, there.1, IsLineFor-from_right (structures_of fs) (environment fs) (question_of query) there.0 there.2));
+      (let there = zip_get (IsLineOf (environment fs)) (environment fs).queries r.lines i query r.right here in
+      (there.0, there.1, IsLineFor-from_right (environment fs) (question_of query) there.0 there.2));
 }

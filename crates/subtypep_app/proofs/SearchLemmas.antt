@@ -14,8 +14,8 @@ use Rattle.ls_spec.specs.Inclusion.{IsWitness, IsIncluded}
 use Rattle.ls_spec.proofs.ListLemmas.{AllByRecursion-contains, AllByRecursion-weaker}
 use Rattle.ls_spec.proofs.PlainLemmas.{Belongs-plain, plain-Belongs, bounded-no_predicate}
 use Rattle.ls_points.specs.Classes.{IsNumber, IsCharacter, IsSymbol, IsOpaque, IsFitAtom}
-use Rattle.subtypep_app.specs.Built.{IsBuilt, IsDecidable}
-use Rattle.subtypep_app.specs.Searching.{Separates, Passes, IsIncludedOn, IsFound, AreAtomsOfTwo, IsFlatObject, IsCompound, IsAny}
+use Rattle.subtypep_app.specs.steps.Built.{IsBuilt, IsDecidable}
+use Rattle.subtypep_app.specs.steps.Searching.{Separates, Passes, IsIncludedOn, IsFound, AreAtomsOfTwo, IsFlatObject, IsCompound, IsAny}
 use Rattle.subtypep_app.proofs.BuiltLemmas.{HasNoPredicate-built, IsBuiltAtom, leaves-built, IsWithinLimits-built, none-compound}
 use Rattle.subtypep_app.proofs.AtomLemmas.{Belongs-alike, to_atoms, unmapped, types_alike}
 

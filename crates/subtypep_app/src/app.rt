@@ -1,9 +1,11 @@
 // One run of the program, over any source and any sink.
 
-ghost use Rattle.std.specs.Prelude.{◌≡◌, ◌≤◌, ◌⊎◌, ℕ, length};
-ghost use Rattle.subtypep_app.specs.Words.{texts, MeanNothing};
-ghost use Rattle.subtypep_app.specs.Report.{Answers};
-ghost use Rattle.subtypep_app.specs.Endings.{Replies, seen, IsEnded, IsFinished, IsUsage, Completes, DecidesAll, IsLonger};
+ghost use Rattle.std.specs.Prelude.{◌≡◌, ◌≤◌, ℕ, List};
+ghost use Rattle.subtypep_app.specs.Words.{texts, Means, MeanNothing};
+ghost use Rattle.subtypep_app.specs.Runs.{outside, HasReplied, IsUsage};
+ghost use Rattle.subtypep_app.specs.Calm.{HasRun};
+ghost use Rattle.subtypep_app.specs.steps.Finishing.{IsFinished};
+ghost use Rattle.subtypep_app.specs.declared.words.Command.TheVariants.{Ask};
 
 use crate::report::report_of;
 use crate::status::Status;
@@ -17,11 +19,9 @@ const TOO_LONG: &[u8] = b"FAULT TOO-LONG\n";
 
 /// Writes all the bytes of a report, and gives the status that stands for it.
 fn finish<K: Sink>(sink: &mut K, bytes: &[u8], status: Status) -> Status
-    ensures ends { IsFinished (K.written sink.old) (K.written sink.new) (K.failures sink.old) (K.failures sink.new)
-        bytes.now status result }
+    ensures ends { IsFinished (K.has_room sink.old) (K.written sink.old) (K.written sink.new)
+        (K.failures sink.old) (K.failures sink.new) bytes.now status result }
     ensures later { K.failures sink.old ≤ K.failures sink.new }
-    ensures sound { (room : ℕ) → K.has_room sink.old room → length bytes.now ≤ room
-        → K.failures sink.new ≡ K.failures sink.old }
 {
     match write_all(sink, bytes) {
         Ok(()) => status,
@@ -31,15 +31,11 @@ fn finish<K: Sink>(sink: &mut K, bytes: &[u8], status: Status) -> Status
 
 /// Reads the text to its end, and answers its queries.
 fn ask<S: Source, K: Sink>(alloc: Global, source: &mut S, sink: &mut K) -> Status
-    ensures ends { IsEnded Answers
-        (seen (S.left source.old) (K.written sink.old) (S.failures source.old) (K.failures sink.old))
-        (seen (S.left source.new) (K.written sink.new) (S.failures source.new) (K.failures sink.new))
+    ensures { (words : List (List ℕ)) → Means words Ask
+        → HasReplied words (S.is_sound source.old) (K.has_room sink.old)
+        (outside (S.left source.old) (K.written sink.old) (S.failures source.old) (K.failures sink.old))
+        (outside (S.left source.new) (K.written sink.new) (S.failures source.new) (K.failures sink.new))
         result }
-    ensures source_later { S.failures source.old ≤ S.failures source.new }
-    ensures sink_later { K.failures sink.old ≤ K.failures sink.new }
-    ensures source_sound { S.is_sound source.old → S.failures source.new ≡ S.failures source.old }
-    ensures sink_sound { (room : ℕ) → K.has_room sink.old room
-        → (K.failures sink.new ≡ K.failures sink.old) ⊎ IsLonger Answers (S.left source.old) room }
 {
     match read_all(alloc, source) {
         Ok(text) => match report_of(alloc, &text) {
@@ -59,17 +55,11 @@ fn reply<S: Source, K: Sink>(
     source: &mut S,
     sink: &mut K,
 ) -> Status
-    ensures ends { IsEnded (Replies (texts words.now))
-        (seen (S.left source.old) (K.written sink.old) (S.failures source.old) (K.failures sink.old))
-        (seen (S.left source.new) (K.written sink.new) (S.failures source.new) (K.failures sink.new))
+    ensures replied { HasReplied (texts words.now) (S.is_sound source.old) (K.has_room sink.old)
+        (outside (S.left source.old) (K.written sink.old) (S.failures source.old) (K.failures sink.old))
+        (outside (S.left source.new) (K.written sink.new) (S.failures source.new) (K.failures sink.new))
         result }
     ensures usage { MeanNothing (texts words.now) → IsUsage result × (source.new ≡ source.old) }
-    ensures source_later { S.failures source.old ≤ S.failures source.new }
-    ensures sink_later { K.failures sink.old ≤ K.failures sink.new }
-    ensures source_sound { S.is_sound source.old → S.failures source.new ≡ S.failures source.old }
-    ensures sink_sound { (room : ℕ) → K.has_room sink.old room
-        → (K.failures sink.new ≡ K.failures sink.old) ⊎
-        IsLonger (Replies (texts words.now)) (S.left source.old) room }
 {
     match command_of(words) {
         Some(Command::Ask) => ask(alloc, source, sink),
@@ -85,33 +75,13 @@ pub fn run<S: Source, K: Sink>(
     source: &mut S,
     sink: &mut K,
 ) -> Status
-    // What was written, and which call failed, by the status.
-    ensures ends { IsEnded (Replies (texts words.now))
-        (seen (S.left source.old) (K.written sink.old) (S.failures source.old) (K.failures sink.old))
-        (seen (S.left source.new) (K.written sink.new) (S.failures source.new) (K.failures sink.new))
+    // The outside before and after, the words and the status fit together: `HasRun` says how, fact by fact.
+    ensures run { HasRun (texts words.now) (S.is_sound source.old) (K.has_room sink.old)
+        (outside (S.left source.old) (K.written sink.old) (S.failures source.old) (K.failures sink.old))
+        (outside (S.left source.new) (K.written sink.new) (S.failures source.new) (K.failures sink.new))
         result }
     // Words without a meaning are told from the words alone: nothing is read, and no memory is taken.
     ensures usage { MeanNothing (texts words.now) → IsUsage result × (source.new ≡ source.old) }
-    // Where no call fails, a text with forms is answered and any other refused, unless memory is wanting.
-    ensures complete { Completes (texts words.now)
-        (seen (S.left source.old) (K.written sink.old) (S.failures source.old) (K.failures sink.old))
-        (seen (S.left source.new) (K.written sink.new) (S.failures source.new) (K.failures sink.new))
-        result }
-    // Then the line of each query whose types resolve says Yes exactly where the first is included in the second,
-    // and otherwise shows an object that is in the first and not in the second. The line of any other query says
-    // what is wrong with it, and where.
-    ensures decided { DecidesAll (texts words.now)
-        (seen (S.left source.old) (K.written sink.old) (S.failures source.old) (K.failures sink.old))
-        (seen (S.left source.new) (K.written sink.new) (S.failures source.new) (K.failures sink.new))
-        result }
-    // The counts of failures never fall. A source that does not fail keeps its count, and so does a sink with room
-    // for so many bytes, unless the report is longer.
-    ensures source_later { S.failures source.old ≤ S.failures source.new }
-    ensures sink_later { K.failures sink.old ≤ K.failures sink.new }
-    ensures source_sound { S.is_sound source.old → S.failures source.new ≡ S.failures source.old }
-    ensures sink_sound { (room : ℕ) → K.has_room sink.old room
-        → (K.failures sink.new ≡ K.failures sink.old) ⊎
-        IsLonger (Replies (texts words.now)) (S.left source.old) room }
 {
     reply(alloc, words, source, sink)
 }

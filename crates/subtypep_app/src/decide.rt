@@ -8,9 +8,9 @@ ghost use Rattle.ls_object.specs.Meaning.{lisp_object, lisp_shape};
 ghost use Rattle.ls_spec.specs.Meaning.{specifier};
 ghost use Rattle.ls_spec.specs.Membership.{Belongs};
 ghost use Rattle.ls_spec.specs.Inclusion.{IsWitness};
-ghost use Rattle.subtypep_app.specs.Built.{IsBuilt, IsDecidable};
+ghost use Rattle.subtypep_app.specs.steps.Built.{IsBuilt, IsDecidable};
 ghost use Rattle.subtypep_app.specs.Answers.{IsRight, IsPlainAnswer};
-ghost use Rattle.subtypep_app.specs.Searching.{Separates, Passes, IsFound, IsFlatObject, IsCompound, IsAny, AreAtomsOfTwo, nil};
+ghost use Rattle.subtypep_app.specs.steps.Searching.{Separates, Passes, IsFound, IsFlatObject, IsCompound, IsAny, AreAtomsOfTwo, nil};
 
 use crate::answer::Answer;
 use ls_object::{Boxed, Code, Dims, Items, Object, Rat, Shape, Symbol};

@@ -7,26 +7,24 @@ mod status;
 mod words;
 
 // What a query asks.
-mod names;
 mod query;
 
 // The answer to a query.
 mod answer;
 mod decide;
 
-// The line of a query, and the report of a text.
+// The line of a query and its text, and the report of a text.
 mod line;
 mod report;
 #[cfg(test)]
 mod tests;
+mod text;
 
 use app::run;
 use ls_io::{StdSink, StdSource};
+use status::Status;
 use std::process::ExitCode;
 use std::{env, io};
-
-/// The exit status where memory for the words is wanting.
-const NO_MEMORY: u8 = 6;
 
 /// The exit status where the words can't be had for another cause.
 const NO_WORDS: u8 = 7;
@@ -48,7 +46,9 @@ fn main(rt: HostRuntime) -> ExitCode {
             let status = run(rt.alloc(), &words, &mut source, &mut sink);
             ExitCode::from(status.number())
         }
-        Err(error) if error.kind() == io::ErrorKind::OutOfMemory => ExitCode::from(NO_MEMORY),
+        Err(error) if error.kind() == io::ErrorKind::OutOfMemory => ExitCode::from(
+            Status::Memory.number(),
+        ),
         Err(_) => ExitCode::from(NO_WORDS),
     }
 }

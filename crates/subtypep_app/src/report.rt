@@ -1,13 +1,15 @@
 // The report on a text.
 
-ghost use Rattle.std.specs.Prelude.{◌≡◌, ◌≤◌, ◌++◌, [], length, false, IfOk, OnOk};
+ghost use Rattle.std.specs.Prelude.{◌≡◌, ◌≤◌, ◌++◌, [], length, IfOk, OnOk};
 ghost use Rattle.std.specs.Str.{IsAscii};
 ghost use Rattle.ls_io.specs.Moves.{limit};
-ghost use Rattle.subtypep_app.specs.Report.{Answers, AreReported, fault_body, fault_text, place_text};
-ghost use Rattle.subtypep_app.specs.Reporting.{LineAppended, IsReportOn};
+ghost use Rattle.subtypep_app.specs.Replies.{IsAnswered};
+ghost use Rattle.subtypep_app.specs.Report.{AreReported, IsLineOf, IsReport, fault_body, fault_text, is_finding, line_text, place_text};
+ghost use Rattle.subtypep_app.specs.steps.Reporting.{LineAppended, status_for};
 
-use crate::line::{line_of, push_line, push_place};
+use crate::line::line_of;
 use crate::status::Status;
+use crate::text::{push_line, push_place};
 use ls_env::{Env, Query};
 use ls_object::{Items, Text};
 use ls_reader::{Datum, ReadError, Span, read_text};
@@ -22,6 +24,7 @@ pub(crate) struct Report {
 
 /// Appends the line of a query, and says whether the line is a finding.
 fn push_query(alloc: Global, env: &Env, query: &Query, out: &mut Text) -> Result<bool, AllocError>
+    requires structures { env.now.structures ≡ [] }
     ensures { IfOk result (LineAppended env.now query.now out.old out.new) }
 {
     let line = line_of(alloc, env, query)?;
@@ -36,8 +39,9 @@ fn push_queries(
     queries: &[Query],
     out: &mut Text,
 ) -> Result<bool, AllocError>
-    requires { out.old ≡ [] }
-    ensures { IfOk result (λ found. AreReported [] env.now queries.now found out.new) }
+    requires empty { out.old ≡ [] }
+    requires structures { env.now.structures ≡ [] }
+    ensures { IfOk result (λ found. AreReported (IsLineOf env.now) line_text is_finding queries.now found out.new) }
 {
     let mut found = false;
     for query in queries {
@@ -47,15 +51,21 @@ fn push_queries(
     Ok(found)
 }
 
-/// The report on the forms of a text.
-fn report_on(alloc: Global, forms: &Items<Datum>) -> Result<Report, AllocError>
-    ensures { IfOk result (λ report. IsReportOn forms.now report.status report.text) }
+/// The report on the queries of a file, and whether one of its lines is a finding.
+fn report_on(alloc: Global, forms: &Items<Datum>) -> Result<(Text, bool), AllocError>
+    ensures { IfOk result (λ made. IsReport forms.now made.1 made.0) }
 {
     let env = Env::of_file(alloc, forms)?;
     let mut text = Text::of_ascii(alloc, "")?;
     let found = push_queries(alloc, &env, env.queries().as_slice(), &mut text)?;
-    let status = if found { Status::Found } else { Status::Clean };
-    Ok(Report { text, status })
+    Ok((text, found))
+}
+
+/// The status of a report with a finding, or without one.
+fn status_for(found: bool) -> Status
+    ensures { result ≡ status_for found }
+{
+    if found { Status::Found } else { Status::Clean }
 }
 
 fn push_fault_body(out: &mut Text, error: &ReadError) -> Result<(), AllocError>
@@ -84,25 +94,31 @@ fn push_fault(out: &mut Text, kind: &str, span: Span) -> Result<(), AllocError>
 }
 
 /// The one line of a text that has a fault.
-fn report_fault(alloc: Global, error: &ReadError) -> Result<Report, AllocError>
-    ensures text { IfOk result (λ report. report.text ≡ fault_text error.now) }
-    ensures status { IfOk result (λ report. report.status ≡ Status.Unreadable) }
+fn fault_line(alloc: Global, error: &ReadError) -> Result<Text, AllocError>
+    ensures { IfOk result (λ text. text ≡ fault_text error.now) }
 {
     let mut text = Text::of_ascii(alloc, "FAULT ")?;
     push_fault_body(&mut text, error)?;
     text.push_ascii("\n")?;
-    let status = Status::Unreadable;
-    Ok(Report { text, status })
+    Ok(text)
 }
 
 /// The report that answers a text.
 pub(crate) fn report_of(alloc: Global, text: &[u8]) -> Result<Report, AllocError>
-    requires { length text.now ≤ limit }
-    ensures { IfOk result (λ report. Answers text.now report.status report.text) }
+    requires short { length text.now ≤ limit }
+    ensures { IfOk result (λ report. IsAnswered text.now report.status report.text) }
 {
     match read_text(alloc, text) {
-        Ok(forms) => report_on(alloc, &forms),
+        Ok(forms) => {
+            let (text, found) = report_on(alloc, &forms)?;
+            let status = status_for(found);
+            Ok(Report { text, status })
+        }
         Err(ReadError::Memory) => Err(AllocError),
-        Err(error) => report_fault(alloc, &error),
+        Err(error) => {
+            let text = fault_line(alloc, &error)?;
+            let status = Status::Unreadable;
+            Ok(Report { text, status })
+        }
     }
 }

@@ -75,7 +75,7 @@ fn outcome_of(alloc: Global, case: &Case) -> Result<Outcome, AllocError> {
 type Row<'a> = (&'a [u8], &'a [u8]);
 
 /// Texts without a refusal.
-const ANSWERED: [Row<'static>; 28] = [
+const ANSWERED: [Row<'static>; 29] = [
     (b"", b""),
     (RANGES, RANGES_REPORT),
     (b"(defun f)", b""),
@@ -149,6 +149,11 @@ const ANSWERED: [Row<'static>; 28] = [
         b"1:8 T\n1:53 T\n",
     ),
     (b"\n(progn)(eval-when)", b""),
+    (
+        b"(progn (subtypep nil nil)(subtypep t t)(subtypep nil t)(subtypep t t)(subtypep nil t)(subtypep nil nil)
+(subtypep t t)(subtypep nil nil)(subtypep nil nil)(subtypep t t)(subtypep nil nil)(subtypep nil t))",
+        b"1:8 T\n1:26 T\n1:40 T\n1:56 T\n1:70 T\n1:86 T\n2:1 T\n2:15 T\n2:33 T\n2:51 T\n2:65 T\n2:83 T\n",
+    ),
 ];
 
 #[test]

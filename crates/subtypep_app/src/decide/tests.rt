@@ -4,7 +4,7 @@ ghost use Rattle.std.specs.Prelude.{◌<◌, IfOk};
 ghost use Rattle.ls_spec.specs.Meaning.{specifier, specifiers};
 ghost use Rattle.ls_spec.specs.Fits.{HaveSmallNumbers, IsSmall, IsSmallBound};
 ghost use Rattle.ls_spec.specs.SelfContained.{IsSelfContained};
-ghost use Rattle.subtypep_app.specs.Built.{AreBuilt, IsDecidable};
+ghost use Rattle.subtypep_app.specs.steps.Built.{AreBuilt, IsDecidable};
 
 use super::{decide, some_array};
 use crate::answer::Answer;

@@ -1,4 +1,4 @@
-use Rattle.ls_grammar.specs.Machine.{run_object}
+use Rattle.ls_grammar.specs.steps.Running.{run_object}
 use Rattle.ls_grammar.proofs.OutcomeLemmas.{run_push}
 use Rattle.ls_grammar.proofs.resolving.resolve_objects.Goals as goal
 

@@ -1,6 +1,6 @@
 use Rattle.std.proofs.Common.{◌≡◌, drop, map}
 use Rattle.ls_spec.specs.Meaning.{specifier}
-use Rattle.ls_grammar.specs.Machine.{run_all, behind, run_object}
+use Rattle.ls_grammar.specs.steps.Running.{run_all, behind, run_object}
 use Rattle.ls_grammar.proofs.resolving.resolve_objects.Given as goal
 
 abbrev pub invariant-loop-object : goal.invariant-loop-object

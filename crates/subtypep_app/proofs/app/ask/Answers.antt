@@ -1,33 +1,41 @@
 use Rattle.std.proofs.Common.{inl, refl, ap, subst, Err}
 use Rattle.subtypep_app.specs.declared.status.Status.TheVariants.{Unreadable}
-use Rattle.subtypep_app.specs.Report.{Answers, too_long_text}
-use Rattle.subtypep_app.proofs.EndingLemmas.{told_all, told_too_long, too_long_bytes, IsEnded-from_finished, IsEnded-from_answer, stays_or_longer}
+use Rattle.subtypep_app.specs.Report.{too_long_text}
+use Rattle.subtypep_app.specs.Replies.{IsAnswered}
+use Rattle.subtypep_app.proofs.ToldLemmas.{told_all, told_too_long, too_long_bytes}
+use Rattle.subtypep_app.proofs.EndingLemmas.{IsReply-from_answer, ReadAll-at_end, HasReplied-finished, HasReplied-whole, HasReplied-memory, HasReplied-read_failed}
 use Rattle.subtypep_app.proofs.app.ask.Goals as goal
 
 -- the text that was read is answered
-pub returns-in-Ok-report_of-clause-ends : goal.returns-in-Ok-report_of-clause-ends
-returns-in-Ok-report_of-clause-ends g c =
+pub returns-in-Ok-report_of : goal.returns-in-Ok-report_of
+returns-in-Ok-report_of g c = λ words means.
     let text = c.in-Ok.text.items in
     let report = c.in-Ok-report_of.report in
     let told = told_all _ _ text c.in-Ok.ensures.all c.in-Ok.ensures.end in
-    let right = subst (λ bytes. Answers bytes report.status report.text) c.deref.ensures.value c.in-Ok-report_of.ensures in
-    IsEnded-from_answer _ _ report.status _ text report.text _ told right c.as_bytes.ensures.utf8 c.in-Ok.ensures.end c.finish.ensures.ends
-
-pub returns-in-Ok-report_of-clause-sink_sound : goal.returns-in-Ok-report_of-clause-sink_sound
-returns-in-Ok-report_of-clause-sink_sound g c = λ room enough.
-    let text = c.in-Ok.text.items in
-    let report = c.in-Ok-report_of.report in
-    let told = told_all _ _ text c.in-Ok.ensures.all c.in-Ok.ensures.end in
-    let right = subst (λ bytes. Answers bytes report.status report.text) c.deref.ensures.value c.in-Ok-report_of.ensures in
-    stays_or_longer Answers _ report.status text report.text _ room told right c.as_bytes.ensures.utf8 (λ fits. c.finish.ensures.sound room enough fits)
+    let answer = subst (λ bytes. IsAnswered bytes report.status report.text) c.deref.ensures.value c.in-Ok-report_of.ensures in
+    HasReplied-whole words _ _ _ _ report.status _ text report.text _ told (IsReply-from_answer words means text report.status report.text answer)
+    c.as_bytes.ensures.utf8 (ReadAll-at_end words _ c.in-Ok.ensures.end) (c.in-Ok.ensures.quiet (λ e. absurd (cc))) c.finish.ensures.later c.finish.ensures.ends
 
 -- the text is too long
-pub returns-in-Err-TooLong-clause-ends : goal.returns-in-Err-TooLong-clause-ends
-returns-in-Err-TooLong-clause-ends g c =
+pub returns-in-Err-TooLong : goal.returns-in-Err-TooLong
+returns-in-Err-TooLong g c = λ words means.
     let told = told_too_long _ _ (c.in-Err-TooLong.ensures.too_long (ap Err c.in-Err-TooLong.field-0-is)) in
-    IsEnded-from_finished Answers _ _ Unreadable _ told.0 too_long_text _ told.1 (inl (told.2, refl)) too_long_bytes (λ w. w) c.finish-in-Err-TooLong.ensures.ends
+    let right = IsReply-from_answer words means told.0 Unreadable too_long_text (inl (told.2, refl)) in
+    HasReplied-finished words _ _ _ _ Unreadable _ told.0 too_long_text _ told.1 right too_long_bytes (λ wrote. wrote)
+    (c.in-Err-TooLong.ensures.quiet (λ e. absurd (cc))) c.finish-in-Err-TooLong.ensures.later c.finish-in-Err-TooLong.ensures.ends
 
-pub returns-in-Err-TooLong-clause-sink_sound : goal.returns-in-Err-TooLong-clause-sink_sound
-returns-in-Err-TooLong-clause-sink_sound g c = λ room enough.
-    let told = told_too_long _ _ (c.in-Err-TooLong.ensures.too_long (ap Err c.in-Err-TooLong.field-0-is)) in
-    stays_or_longer Answers _ Unreadable told.0 too_long_text _ room told.1 (inl (told.2, refl)) too_long_bytes (λ fits. c.finish-in-Err-TooLong.ensures.sound room enough fits)
+-- a read failed
+pub returns-in-Err-Fault : goal.returns-in-Err-Fault
+returns-in-Err-Fault g c = λ words means.
+    HasReplied-read_failed words _ _ _ _ (c.in-Err-Fault.ensures.fault (ap Err c.in-Err-Fault.field-0-is)) (λ sound. (c.in-Err-Fault.ensures.sound sound).0 (ap Err c.in-Err-Fault.field-0-is))
+    c.in-Err-Fault.ensures.later refl refl
+
+-- memory was wanting for the text
+pub returns : goal.returns
+returns g c = λ words means.
+    HasReplied-memory words _ _ _ _ refl (c.in-Err-Memory.ensures.quiet (λ e. absurd (cc))) refl
+
+-- memory was wanting for the report
+pub returns-in-Ok : goal.returns-in-Ok
+returns-in-Ok g c = λ words means.
+    HasReplied-memory words _ _ _ _ refl (c.in-Ok.ensures.quiet (λ e. absurd (cc))) refl

@@ -4,7 +4,7 @@ use Rattle.ls_object.specs.Universe.{node, array}
 use Rattle.ls_object.specs.Meaning.{lisp_object}
 use Rattle.ls_spec.specs.Meaning.{specifier}
 use Rattle.ls_spec.specs.Inclusion.{IsWitness}
-use Rattle.subtypep_app.specs.Searching.{Passes}
+use Rattle.subtypep_app.specs.steps.Searching.{Passes}
 use Rattle.subtypep_app.proofs.SearchLemmas.{IsFound-last_compound}
 use Rattle.subtypep_app.proofs.decide.witness_of_compound.Goals as goal
 

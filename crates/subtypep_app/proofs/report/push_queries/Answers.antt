@@ -1,10 +1,11 @@
 use Rattle.std.proofs.Common.{◌≡◌, ◌||◌, subst, arith}
-use Rattle.subtypep_app.specs.Reporting.{LineAppended}
-use Rattle.subtypep_app.proofs.ReportLemmas.{AreReported-more}
+use Rattle.subtypep_app.specs.steps.Reporting.{LineAppended}
+use Rattle.subtypep_app.proofs.ReportLemmas.{AreReported-appended}
 use Rattle.subtypep_app.proofs.report.push_queries.Goals as goal
 
 pub loop-query-preserved : goal.loop-query-preserved
 loop-query-preserved c =
     let is : c.if-found.found ≡ (c.loop-query.found || c.in_ok-finding.finding) = grind arith in
-    AreReported-more c.args.env.now c.args.queries.now c.loop-query.query-index c.query-item.result c.loop-query.found c.in_ok-finding.finding c.if-found.found c.loop-query.out c.push_query.new.out c.loop-query-test.true c.loop-query.invariant
+    AreReported-appended c.args.env.now c.args.queries.now c.loop-query.query-index c.query-item.result c.loop-query.found c.in_ok-finding.finding c.if-found.found c.loop-query.out c.push_query.new.out
+    c.loop-query-test.true c.loop-query.invariant
     (subst (λ q. LineAppended c.args.env.now q c.loop-query.out c.push_query.new.out c.in_ok-finding.finding) c.query-item.is c.in_ok-finding.ensures) is

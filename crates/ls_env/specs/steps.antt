@@ -1,0 +1,2 @@
+-- What the code computes on the way, step by step. No public contract rests on it.
+pub mod Gathering

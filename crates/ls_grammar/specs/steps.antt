@@ -1,0 +1,3 @@
+-- Resolving as the code goes, step by step. No public contract rests on it.
+pub mod Running
+pub mod Answering

@@ -1,0 +1,105 @@
+-- What a run answers where no call fails follows from how it ended.
+use Rattle.std.proofs.Common.{◌≡◌, ℕ, ◌≤◌, inl, inr, List, length, Bool, true, false, Option, Some, refl, ap, sym, ◌∙◌, subst, arith}
+use Rattle.std.specs.Prelude.{encode_utf8_all}
+use Rattle.ls_io.specs.Moves.{limit, Took}
+use Rattle.ls_reader.specs.declared.datum.Datum.{Datum}
+use Rattle.ls_reader.specs.Forms.{Forms}
+use Rattle.ls_reader.proofs.AnswerLemmas.{error_reads, forms_same}
+use Rattle.subtypep_app.specs.declared.status.Status.{Status}
+use Rattle.subtypep_app.specs.declared.status.Status.TheVariants.{Clean, Found, Usage, Unreadable, SourceFault, SinkFault, Memory}
+use Rattle.subtypep_app.specs.declared.words.Command.{Command}
+use Rattle.subtypep_app.specs.declared.words.Command.TheVariants.{Ask}
+use Rattle.subtypep_app.specs.Words.{Means}
+use Rattle.subtypep_app.specs.Report.{IsReport}
+use Rattle.subtypep_app.specs.Replies.{IsTold, IsReportOf, IsAnswered, RepliesTo, IsReply}
+use Rattle.subtypep_app.specs.Runs.{Outside, Wrote, IsEnded, HasReplied}
+use Rattle.subtypep_app.specs.Deciding.{AllDecided}
+use Rattle.subtypep_app.specs.Calm.{NoCallFailed, IsUnreadable, IsAnsweredOrRefused, IsComplete, DecidesAll, HasRun}
+use Rattle.subtypep_app.proofs.ToldLemmas.{IsTold-unique}
+use Rattle.subtypep_app.proofs.LineLemmas.{AllDecided-from_report}
+
+-- what replies to a command is an answer
+answer_of : (words : List (List ℕ)) (text report : List ℕ) (status : Status)
+    → (command : Command) × Means words command × RepliesTo command text status report → IsAnswered text status report
+answer_of words text report status (Ask, means, right) = right
+
+-- a text that was read as forms is not unreadable
+read_not_refused : (left : Option (List ℕ)) (text read : List ℕ) (fs : List Datum) → left ≡ Some text → IsTold left read → length read ≤ limit → Forms read fs
+    → IsUnreadable text → ⊥
+read_not_refused left text read fs told is short forms bad =
+    let same : text ≡ read = IsTold-unique left text read told is in
+    elim bad [
+      | inl long ↦ omega (arith, short, long, ap length same)
+      | inr none ↦ none fs (subst (λ bytes. Forms bytes fs) (sym same) forms)
+    ]
+
+-- a text that was refused has no forms, or is too long
+refused_not_read : (left : Option (List ℕ)) (text read report : List ℕ) (fs : List Datum) → left ≡ Some text → IsTold left read
+    → IsAnswered read Unreadable report → length text ≤ limit → Forms text fs → ⊥
+refused_not_read left text read report fs told is right short forms =
+    let same : text ≡ read = IsTold-unique left text read told is in
+    elim right [
+      | inl long ↦ omega (arith, short, long.0, ap length same)
+      | inr fault ↦ fault.2.no_memory (error_reads read fault.1 fault.2.fault fs (subst (λ bytes. Forms bytes fs) same forms))
+    ]
+
+module _ (words : List (List ℕ)) (before now : Outside) (text : List ℕ) (calm : NoCallFailed words Ask text before now) where
+  -- the report that was written is that of the text, as it was read
+  of_report : (found : Bool) (read report : List ℕ) → IsTold before.left read → IsReportOf read found report → IsUnreadable text → ⊥
+  of_report found read report is right = read_not_refused before.left text read right.1 calm.told is right.0 right.2
+
+  decides_report : (found : Bool) (read report : List ℕ) (fs : List Datum) → IsTold before.left read → IsReportOf read found report
+      → Forms text fs → Took before.written now.written (encode_utf8_all report) → AllDecided fs before.written now.written
+  decides_report found read report fs is right forms took =
+      let one_text : text ≡ read = IsTold-unique before.left text read calm.told is in
+      let one_list : right.1 ≡ fs = forms_same read right.1 fs right.2 (subst (λ bytes. Forms bytes fs) one_text forms) in
+      AllDecided-from_report fs found report before.written now.written (subst (λ hs. IsReport hs found report) one_list right.3) took
+
+module _ (words : List (List ℕ)) (IsSound : Type 0) (HasRoom : ℕ → Type 0) (before now : Outside) where
+  -- where no call failed, a text with forms is answered and any other refused
+  complete : (status : Status) → IsEnded words IsSound HasRoom before now status → (text : List ℕ)
+      → NoCallFailed words Ask text before now → IsAnsweredOrRefused text status
+  complete Clean e text calm =
+      let reply = e.0.0 in
+      let right = answer_of words reply.text reply.report Clean (subst (λ s. IsReply words reply.text s reply.report) e.0.1 reply.right) in
+      record { answered = λ fs short forms. tt; refused = λ bad. of_report words before now text calm false reply.text reply.report reply.told right bad }
+  complete Found e text calm =
+      let reply = e.0.0 in
+      let right = answer_of words reply.text reply.report Found (subst (λ s. IsReply words reply.text s reply.report) e.0.1 reply.right) in
+      record { answered = λ fs short forms. tt; refused = λ bad. of_report words before now text calm true reply.text reply.report reply.told right bad }
+  complete Unreadable e text calm =
+      let reply = e.0 in
+      let right = answer_of words reply.text reply.report Unreadable (subst (λ s. IsReply words reply.text s reply.report) e.1 reply.right) in
+      record { answered = λ fs short forms. refused_not_read before.left text reply.text reply.report fs calm.told reply.told right short forms; refused = λ bad. tt }
+  complete Memory e text calm = record { answered = λ fs short forms. tt; refused = λ bad. tt }
+  complete Usage e text calm =
+      absurd (let right = subst (λ s. IsReply words e.0.text s e.0.report) e.1 e.0.right in right.0 Ask calm.meant)
+  complete SourceFault e text calm = absurd (calm.reads e.0)
+  complete SinkFault e text calm = absurd (calm.writes e.0)
+
+  -- and each query of the text is decided, where memory was not wanting
+  decided : (status : Status) → IsEnded words IsSound HasRoom before now status → DecidesAll words before now status
+  decided Clean e text fs calm enough short forms =
+      let reply = e.0.0 in
+      let right = answer_of words reply.text reply.report Clean (subst (λ s. IsReply words reply.text s reply.report) e.0.1 reply.right) in
+      decides_report words before now text calm false reply.text reply.report fs reply.told right forms e.0.2
+  decided Found e text fs calm enough short forms =
+      let reply = e.0.0 in
+      let right = answer_of words reply.text reply.report Found (subst (λ s. IsReply words reply.text s reply.report) e.0.1 reply.right) in
+      decides_report words before now text calm true reply.text reply.report fs reply.told right forms e.0.2
+  decided Memory e text fs calm enough short forms = absurd (enough refl)
+  decided Usage e text fs calm enough short forms = absurd ((complete Usage e text calm).answered fs short forms)
+  decided Unreadable e text fs calm enough short forms = absurd ((complete Unreadable e text calm).answered fs short forms)
+  decided SourceFault e text fs calm enough short forms = absurd (calm.reads e.0)
+  decided SinkFault e text fs calm enough short forms = absurd (calm.writes e.0)
+
+  is_complete : (status : Status) → IsEnded words IsSound HasRoom before now status → IsComplete words before now status
+  is_complete status e Ask text calm = complete status e text calm
+
+  -- a run that has replied has all that is said of runs
+  pub HasRun-replied : (status : Status) → HasReplied words IsSound HasRoom before now status → HasRun words IsSound HasRoom before now status
+  HasRun-replied status replied = record {
+    replied = replied;
+    complete = is_complete status replied.ends;
+    decided = decided status replied.ends;
+  }

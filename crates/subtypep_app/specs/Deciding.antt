@@ -1,0 +1,51 @@
+-- What the lines of a report say of the queries.
+use Rattle.std.specs.Prelude.{◌≡◌, ℕ, ◌<◌, ◌≤◌, ◌⊎◌, ◌↔◌, List, length, slice_get, encode_utf8_all, Option, Some}
+use Rattle.ls_io.specs.Moves.{Took}
+use Rattle.ls_object.specs.declared.object.Object.{Object}
+use Rattle.ls_object.specs.Universe.{Structures}
+use Rattle.ls_object.specs.Meaning.{lisp_object}
+use Rattle.ls_reader.specs.declared.datum.Datum.{Datum}
+use Rattle.ls_spec.specs.Specifier.{Specifier}
+use Rattle.ls_spec.specs.Approximation.{HasNoPredicate}
+use Rattle.ls_spec.specs.Inclusion.{IsIncluded, IsWitness, IsUnsureWitness}
+use Rattle.ls_env.specs.declared.query.Query.{Query}
+use Rattle.ls_env.specs.Environments.{Environment, environment}
+use Rattle.ls_grammar.specs.declared.refusal.Refusal.{Refusal}
+use Rattle.ls_grammar.specs.Visiting.{Resolves}
+use Rattle.subtypep_app.specs.declared.answer.Answer.TheVariants.{Yes, No, Unsure}
+use Rattle.subtypep_app.specs.declared.line.Line.{Line}
+use Rattle.subtypep_app.specs.declared.line.Line.TheVariants.{Answered, Refused}
+use Rattle.subtypep_app.specs.Queries.{Question, inclusion, question_of, refusal_of_question}
+use Rattle.subtypep_app.specs.Report.{line_text, lines_text}
+
+-- the line has an object of the first type outside the second
+abbrev pub HasWitness : Structures → Specifier → Specifier → Line → Type 0
+HasWitness structures a b line =
+    (o : Object) × (line ≡ Answered (No o)) × IsWitness structures a b (lisp_object o)
+
+-- the line is unsure, and has an object that shows why
+abbrev pub HasUnsureWitness : Structures → Specifier → Specifier → Line → Type 0
+HasUnsureWitness structures a b line =
+    (o : Object) × (line ≡ Answered (Unsure o)) × IsUnsureWitness structures a b (lisp_object o)
+
+-- The line says Yes exactly where the first type is included in the second. Otherwise it has a witness, or it is
+-- unsure, which it never is without predicates.
+pub record IsDecided (structures : Structures) (a b : Specifier) (line : Line) : Type 0 where
+  pub yes : (line ≡ Answered Yes) ↔ IsIncluded structures a b
+  pub no : (IsIncluded structures a b → ⊥) → HasWitness structures a b line ⊎ HasUnsureWitness structures a b line
+  pub sure : HasNoPredicate a → HasNoPredicate b → (IsIncluded structures a b → ⊥) → HasWitness structures a b line
+
+-- A line decides the query where both of its types resolve. Where it is refused, the line says why.
+pub record IsLineFor (env : Environment) (question : Question) (line : Line) : Type 0 where
+  pub decided : (a b : Datum) (s t : Specifier) → question ≡ inclusion a b → Resolves env a s → Resolves env b t
+      → IsDecided env.structures s t line
+  pub refused : (x : Refusal) → refusal_of_question env question ≡ Some x → line ≡ Refused x
+
+-- What the sink took is a line for each query of the forms, in order, and each line is for its query.
+pub record AllDecided (fs : List Datum) (before now : Option (List ℕ)) : Type 0 where
+  pub lines : List Line
+  pub taken : Took before now (encode_utf8_all (lines_text line_text (environment fs).queries lines))
+  pub count : length lines ≡ length (environment fs).queries
+  pub each : (i : ℕ) (query : Query)
+      → slice_get (environment fs).queries i ≡ Some query
+      → (line : Line) × (slice_get lines i ≡ Some line) × IsLineFor (environment fs) (question_of query) line

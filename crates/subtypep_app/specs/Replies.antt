@@ -1,0 +1,71 @@
+-- What replies to the words of the command line and to a text: a status and a whole report.
+use Rattle.std.specs.Prelude.{◌≡◌, ℕ, ◌<◌, ◌≤◌, ◌⊎◌, Bool, true, false, List, [], ◌∷◌, ◌++◌, length, codes, encode_utf8_all, Option, Some, None, ⊤}
+use Rattle.std.specs.Io.KnownBytes.{IsAtEnd}
+use Rattle.ls_io.specs.Moves.{limit}
+use Rattle.ls_reader.specs.declared.datum.Datum.{Datum}
+use Rattle.ls_reader.specs.declared.fault.ReadError.{ReadError}
+use Rattle.ls_reader.specs.declared.fault.ReadError.TheVariants as errors
+use Rattle.ls_reader.specs.Forms.{Forms}
+use Rattle.ls_reader.specs.Answers.{IsFaultOf}
+use Rattle.subtypep_app.specs.declared.status.Status.{Status}
+use Rattle.subtypep_app.specs.declared.status.Status.TheVariants.{Clean, Found, Usage, Unreadable, SourceFault, SinkFault, Memory}
+use Rattle.subtypep_app.specs.declared.words.Command.{Command}
+use Rattle.subtypep_app.specs.declared.words.Command.TheVariants.{Ask}
+use Rattle.subtypep_app.specs.Words.{Means, MeanNothing}
+use Rattle.subtypep_app.specs.Report.{IsReport, fault_text, too_long_text}
+
+-- the error is the fault of the text, at its place; a text with a fault has no forms
+pub record IsRefusedWith (text : List ℕ) (e : ReadError) : Type 0 where
+  pub no_memory : e ≡ errors.Memory → ⊥
+  pub fault : IsFaultOf text e
+
+-- a text that can be read has this report
+abbrev pub IsReportOf : List ℕ → Bool → List ℕ → Type 0
+IsReportOf text found report = (length text ≤ limit) × (fs : List Datum) × Forms text fs × IsReport fs found report
+
+-- A text is answered by this status and this whole report, as characters.
+abbrev pub IsAnswered : List ℕ → Status → List ℕ → Type 0
+IsAnswered text Clean report = IsReportOf text false report
+IsAnswered text Found report = IsReportOf text true report
+IsAnswered text Unreadable report =
+    ((limit < length text) × (report ≡ too_long_text))
+    ⊎ ((length text ≤ limit) × (e : ReadError) × IsRefusedWith text e × (report ≡ fault_text e))
+IsAnswered text Usage report = ⊥
+IsAnswered text SourceFault report = ⊥
+IsAnswered text SinkFault report = ⊥
+IsAnswered text Memory report = ⊥
+
+abbrev pub usage_text : List ℕ
+usage_text = codes "usage: subtypep_app ask|check|gen N [--budget N]" ++ 10 ∷ []
+
+-- A command replies to a text by this status and this whole report, as characters.
+abbrev pub RepliesTo : Command → List ℕ → Status → List ℕ → Type 0
+RepliesTo Ask text status report = IsAnswered text status report
+
+-- The words, and a text if they mean a command, are replied to by this status and this whole report.
+abbrev pub IsReply : List (List ℕ) → List ℕ → Status → List ℕ → Type 0
+IsReply words text Usage report = MeanNothing words × (report ≡ usage_text)
+IsReply words text status report = (command : Command) × Means words command × RepliesTo command text status report
+
+-- the text is what was left, where that is told
+abbrev pub IsTold : Option (List ℕ) → List ℕ → Type 0
+IsTold None text = ⊤
+IsTold (Some bytes) text = bytes ≡ text
+
+-- A reply to the words and to what a source had left.
+pub record Reply (words : List (List ℕ)) (left : Option (List ℕ)) : Type 0 where
+  -- what was left to read, where that is told
+  pub text : List ℕ
+  pub told : IsTold left text
+  -- the status and the whole report, as characters, that are right for the words and the text
+  pub status : Status
+  pub report : List ℕ
+  pub right : IsReply words text status report
+
+-- the report in UTF-8
+abbrev pub bytes_of : {words : List (List ℕ)} {left : Option (List ℕ)} → Reply words left → List ℕ
+bytes_of reply = encode_utf8_all reply.report
+
+-- what the command reads was read: `ask` reads its text to the end
+abbrev pub HasRead : Command → Option (List ℕ) → Type 0
+HasRead Ask left = IsAtEnd left

@@ -1,0 +1,95 @@
+// The text of a line.
+
+ghost use Rattle.std.specs.Prelude.{◌≡◌, ◌++◌, OnOk};
+ghost use Rattle.std.specs.Str.{IsAscii};
+ghost use Rattle.subtypep_app.specs.Answers.{IsPlainAnswer};
+ghost use Rattle.subtypep_app.specs.Report.{answer_text, body_text, refusal_name, place_text, text_at};
+ghost use Rattle.subtypep_app.specs.steps.Lines.{IsPlainLine};
+
+use crate::answer::Answer;
+use crate::line::Line;
+use itoa::Buffer;
+use ls_grammar::{Refusal, RefusalKind};
+use ls_object::Text;
+use ls_reader::Span;
+use std::alloc::AllocError;
+
+/// Appends a place as its line and its column.
+pub(crate) fn push_place(out: &mut Text, span: Span) -> Result<(), AllocError>
+    ensures { OnOk result (out.new ≡ out.old ++ place_text span) }
+{
+    let mut buffer = Buffer::new();
+    out.push_ascii(buffer.format(span.line))?;
+    out.push_ascii(":")?;
+    let mut buffer = Buffer::new();
+    out.push_ascii(buffer.format(span.column))
+}
+
+fn push_answer(out: &mut Text, answer: &Answer) -> Result<(), AllocError>
+    requires { IsPlainAnswer answer.now }
+    ensures { OnOk result (out.new ≡ out.old ++ answer_text answer.now) }
+{
+    match answer {
+        Answer::Yes => out.push_ascii("T")?,
+        Answer::No(object) => {
+            out.push_ascii("NIL WITNESS ")?;
+            object.write_text(out)?;
+        }
+        Answer::Unsure(object) => {
+            out.push_ascii("NIL UNSURE ")?;
+            object.write_text(out)?;
+        }
+    }
+    Ok(())
+}
+
+/// The text of a kind: in capitals, with a hyphen between its words.
+fn refusal_name(kind: RefusalKind) -> &'static str
+    ensures ascii { IsAscii result.now }
+    ensures text { result.now ≡ refusal_name kind }
+{
+    match kind {
+        RefusalKind::FloatRange => "FLOAT-RANGE",
+        RefusalKind::ComplexPart => "COMPLEX-PART",
+        RefusalKind::FunctionList => "FUNCTION-LIST",
+        RefusalKind::BadArgument => "BAD-ARGUMENT",
+        RefusalKind::BadBound => "BAD-BOUND",
+        RefusalKind::NumberTooWide => "NUMBER-TOO-WIDE",
+        RefusalKind::MemberObject => "MEMBER-OBJECT",
+        RefusalKind::StarNotAllowed => "STAR-NOT-ALLOWED",
+        RefusalKind::TooDeep => "TOO-DEEP",
+        RefusalKind::TooManyNodes => "TOO-MANY-NODES",
+        RefusalKind::NotBuilt => "NOT-BUILT",
+    }
+}
+
+fn push_refusal(out: &mut Text, refusal: &Refusal) -> Result<(), AllocError>
+    ensures { OnOk result (out.new ≡ out.old ++ body_text (Line.Refused refusal.now)) }
+{
+    out.push_ascii("REFUSED ")?;
+    out.push_ascii(refusal_name(refusal.kind))?;
+    out.push_ascii(" ")?;
+    push_place(out, refusal.place)?;
+    Ok(())
+}
+
+fn push_body(out: &mut Text, line: &Line) -> Result<(), AllocError>
+    requires { IsPlainLine line.now }
+    ensures { OnOk result (out.new ≡ out.old ++ body_text line.now) }
+{
+    match line {
+        Line::Answered(answer) => push_answer(out, answer),
+        Line::Refused(refusal) => push_refusal(out, refusal),
+    }
+}
+
+/// Appends the line at a place, with a newline.
+pub(crate) fn push_line(out: &mut Text, span: Span, line: &Line) -> Result<(), AllocError>
+    requires { IsPlainLine line.now }
+    ensures { OnOk result (out.new ≡ out.old ++ text_at span line.now) }
+{
+    push_place(out, span)?;
+    out.push_ascii(" ")?;
+    push_body(out, line)?;
+    out.push_ascii("\n")
+}
