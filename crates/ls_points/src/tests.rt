@@ -4,13 +4,13 @@ ghost use Rattle.std.specs.Prelude.{IfOk, IfSome};
 ghost use Rattle.std.specs.List.{AllByRecursion};
 ghost use Rattle.ls_spec.specs.Fits.{IsSmall};
 ghost use Rattle.ls_spec.specs.Meaning.{specifier};
-ghost use Rattle.ls_points.specs.Classes.{IsFitAtom};
+ghost use Rattle.ls_points.specs.Classes.{IsFitAtom, IsFitAtomOf};
 
 use super::*;
 use ls_object::{Items, Kind, Object, Parents, Rat, Shape, Symbol, Text};
 use ls_spec::{
     Bound, CharClass, LARGEST_DENOMINATOR, LARGEST_NUMERATOR, Point, RangeKind, Regions, Spec,
-    SymClass,
+    SymClass, is_included_within,
 };
 use std::alloc::{AllocError, Global};
 use std::test::*;
@@ -197,14 +197,72 @@ fn one_type(alloc: Global) -> Result<Parents, AllocError> {
     Ok(parents)
 }
 
+/// The structure type of that name, if it is one of these.
+fn named(alloc: Global, parents: &Parents, name: &Symbol) -> Result<Items<Spec>, AllocError>
+    ensures { IfOk result (λ atoms. AllByRecursion (λ a. IsFitAtomOf parents.now (specifier a)) atoms) }
+{
+    let mut atoms = Items::new(alloc);
+    if parents.contains(name) {
+        atoms.push(Spec::StructIs(name.copy()?))?;
+    }
+    Ok(atoms)
+}
+
 #[test]
 fn a_structure_stands_for_its_type(rt: HostRuntime) -> Result<(), Fail> {
-    let regions = StructRegions::new(one_type(rt.alloc())?);
-    let atoms = Items::new(rt.alloc());
+    let name = Symbol::of_common_lisp(rt.alloc(), Text::of(rt.alloc(), "POINT")?)?;
+    let parents = one_type(rt.alloc())?;
+    let atoms = named(rt.alloc(), &parents, &name)?;
+    let regions = StructRegions::new(parents);
     let reps = regions.reps(rt.alloc(), &atoms)?;
     assert!(rt; !reps.is_empty());
     for object in reps.as_slice() {
         assert!(rt; regions.covers(object));
+        assert!(rt; regions.holds(&Spec::StructIs(name.copy()?), object));
     }
+    Ok(())
+}
+
+#[test]
+fn a_structure_stands_for_all_types(rt: HostRuntime) -> Result<(), Fail> {
+    let regions = StructRegions::new(one_type(rt.alloc())?);
+    let mut atoms = Items::new(rt.alloc());
+    atoms.push(Spec::StructAny)?;
+    let reps = regions.reps(rt.alloc(), &atoms)?;
+    assert!(rt; !reps.is_empty());
+    for object in reps.as_slice() {
+        assert!(rt; regions.covers(object));
+        assert!(rt; regions.holds(&Spec::StructAny, object));
+    }
+    Ok(())
+}
+
+/// RATIONAL
+fn rationals() -> Spec
+    ensures { IsFitAtom (specifier result) }
+{
+    Spec::Range {
+        kind: RangeKind::Rational,
+        lo: Bound::Free,
+        hi: Bound::Free,
+    }
+}
+
+/// Whether each number of the first atom is in the second.
+fn is_first_within_second(alloc: Global, atoms: &Items<Spec>) -> Result<bool, Fail>
+    requires { AllByRecursion (λ a. IsFitAtom (specifier a)) atoms.now }
+{
+    let [first, second] = atoms.as_slice() else {
+        return Err(Fail::from("there are two atoms"));
+    };
+    Ok(is_included_within(alloc, &NumberRegions, atoms, first, second)?)
+}
+
+#[test]
+fn integers_are_rationals_and_no_ratio_is_an_integer(rt: HostRuntime) -> Result<(), Fail> {
+    let atoms = two(rt.alloc(), integers(), rationals())?;
+    assert!(rt; is_first_within_second(rt.alloc(), &atoms)?);
+    let atoms = two(rt.alloc(), open_unit(), integers())?;
+    assert!(rt; !is_first_within_second(rt.alloc(), &atoms)?);
     Ok(())
 }

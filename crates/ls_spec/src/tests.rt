@@ -5,8 +5,11 @@ ghost use Rattle.std.specs.Prelude.{IfOk};
 ghost use Rattle.ls_spec.specs.Meaning.{specifier};
 ghost use Rattle.ls_spec.specs.SelfContained.{IsSelfContained};
 
-use crate::{Bound, CharClass, Point, RangeKind, Spec, SymClass, atoms, belongs};
-use ls_object::{Boxed, Items, Object, Parents, Rat, Shape, Symbol, Text};
+use crate::{
+    Bound, CharClass, DimPattern, Point, RangeKind, Spec, SymClass, atoms, belongs,
+    belongs_unmarked, of_code,
+};
+use ls_object::{Boxed, Code, Items, Object, Parents, Rat, Shape, Symbol, Text};
 use std::alloc::{AllocError, Global};
 use std::test::Fail;
 
@@ -155,5 +158,70 @@ fn a_copy_fits(rt: HostRuntime) -> Result<(), Fail> {
     assert!(rt; bit.copy(rt.alloc())?.fits(&parents));
     let wide = Spec::Eql(Point::Number(Rat::integer(1 << 65)));
     assert!(rt; !wide.fits(&parents));
+    Ok(())
+}
+
+/// (ARRAY * (3 *)).
+fn arrays_of_three_rows(alloc: Global) -> Result<Spec, AllocError> {
+    let mut places = Items::new(alloc);
+    places.push(Some(3))?;
+    places.push(None)?;
+    Ok(Spec::ArrayOf {
+        elem: None,
+        simple: false,
+        dims: DimPattern::Places(places),
+    })
+}
+
+/// (AND (ARRAY * (3 *)) (SATISFIES ODDP)).
+fn marked_arrays(alloc: Global) -> Result<Spec, AllocError> {
+    let oddp = Symbol::of_common_lisp(alloc, Text::of(alloc, "ODDP")?)?;
+    let mut parts = Items::new(alloc);
+    parts.push(arrays_of_three_rows(alloc)?)?;
+    parts.push(Spec::Satisfies(oddp))?;
+    Ok(Spec::And(parts))
+}
+
+#[test]
+fn a_copy_keeps_the_predicate_and_no_bound_does(rt: HostRuntime) -> Result<(), Fail> {
+    let spec = marked_arrays(rt.alloc())?.copy(rt.alloc())?;
+    assert!(rt; spec.has_free_predicate());
+    assert!(rt; !spec.low(rt.alloc())?.has_free_predicate());
+    assert!(rt; !spec.high(rt.alloc())?.has_free_predicate());
+    Ok(())
+}
+
+#[test]
+fn the_code_of_bits_holds_one_and_not_two(rt: HostRuntime) -> Result<(), Fail> {
+    let one = plain(rt.alloc(), Shape::Number(Rat::integer(1)));
+    let two = plain(rt.alloc(), Shape::Number(Rat::integer(2)));
+    // An element code, and whether arrays of it can hold 1 and 2.
+    let rows = [
+        (Code::NIL, false, false),
+        (Code::BIT, true, false),
+        (Code::ALL, true, true),
+    ];
+    for (code, holds_one, holds_two) in rows {
+        let spec = of_code(rt.alloc(), code)?;
+        assert_eq!(rt; belongs_unmarked(&spec, &one.shape), holds_one);
+        assert_eq!(rt; belongs_unmarked(&spec, &two.shape), holds_two);
+    }
+    Ok(())
+}
+
+/// (EQL n) for each n below the count.
+fn numbers_below(alloc: Global, count: u32) -> Result<Items<Spec>, AllocError> {
+    let mut list = Items::new(alloc);
+    for n in 0..count {
+        list.push(Spec::Eql(Point::Number(Rat::integer(i128::from(n)))))?;
+    }
+    Ok(list)
+}
+
+#[test]
+fn six_hundred_atoms_are_found(rt: HostRuntime) -> Result<(), Fail> {
+    let list = numbers_below(rt.alloc(), 600)?;
+    let found = atoms(rt.alloc(), &list)?;
+    assert_eq!(rt; found.len(), 600);
     Ok(())
 }
