@@ -19,9 +19,10 @@ use Rattle.subtypep_app.proofs.ToldLemmas.{IsTold-unique}
 use Rattle.subtypep_app.proofs.LineLemmas.{AllDecided-from_report}
 
 -- what replies to a command is an answer
-answer_of : (words : List (List ℕ)) (text report : List ℕ) (status : Status)
-    → (command : Command) × Means words command × RepliesTo command text status report → IsAnswered text status report
-answer_of words text report status (Ask, means, right) = right
+answer_of : (words : List (List ℕ)) (budget : ℕ) → Means words (Ask budget) → (text report : List ℕ) (status : Status)
+    → (command : Command) × Means words command × RepliesTo command text status report → IsAnswered budget text status report
+answer_of words budget meant text report status (Ask other, means, right) =
+    subst (λ n. IsAnswered n text status report) (means.1 ∙ sym meant.1) right
 
 -- a text that was read as forms is not unreadable
 read_not_refused : (left : Option (List ℕ)) (text read : List ℕ) (fs : List Datum) → left ≡ Some text → IsTold left read → length read ≤ limit → Forms read fs
@@ -34,67 +35,67 @@ read_not_refused left text read fs told is short forms bad =
     ]
 
 -- a text that was refused has no forms, or is too long
-refused_not_read : (left : Option (List ℕ)) (text read report : List ℕ) (fs : List Datum) → left ≡ Some text → IsTold left read
-    → IsAnswered read Unreadable report → length text ≤ limit → Forms text fs → ⊥
-refused_not_read left text read report fs told is right short forms =
+refused_not_read : (budget : ℕ) (left : Option (List ℕ)) (text read report : List ℕ) (fs : List Datum) → left ≡ Some text → IsTold left read
+    → IsAnswered budget read Unreadable report → length text ≤ limit → Forms text fs → ⊥
+refused_not_read budget left text read report fs told is right short forms =
     let same : text ≡ read = IsTold-unique left text read told is in
     elim right [
       | inl long ↦ omega (arith, short, long.0, ap length same)
       | inr fault ↦ fault.2.no_memory (error_reads read fault.1 fault.2.fault fs (subst (λ bytes. Forms bytes fs) same forms))
     ]
 
-module _ (words : List (List ℕ)) (before now : Outside) (text : List ℕ) (calm : NoCallFailed words Ask text before now) where
+module _ (words : List (List ℕ)) (before now : Outside) (budget : ℕ) (text : List ℕ) (calm : NoCallFailed words (Ask budget) text before now) where
   -- the report that was written is that of the text, as it was read
-  of_report : (found : Bool) (read report : List ℕ) → IsTold before.left read → IsReportOf read found report → IsUnreadable text → ⊥
+  of_report : (found : Bool) (read report : List ℕ) → IsTold before.left read → IsReportOf budget read found report → IsUnreadable text → ⊥
   of_report found read report is right = read_not_refused before.left text read right.1 calm.told is right.0 right.2
 
-  decides_report : (found : Bool) (read report : List ℕ) (fs : List Datum) → IsTold before.left read → IsReportOf read found report
-      → Forms text fs → Took before.written now.written (encode_utf8_all report) → AllDecided fs before.written now.written
+  decides_report : (found : Bool) (read report : List ℕ) (fs : List Datum) → IsTold before.left read → IsReportOf budget read found report
+      → Forms text fs → Took before.written now.written (encode_utf8_all report) → AllDecided budget fs before.written now.written
   decides_report found read report fs is right forms took =
       let one_text : text ≡ read = IsTold-unique before.left text read calm.told is in
       let one_list : right.1 ≡ fs = forms_same read right.1 fs right.2 (subst (λ bytes. Forms bytes fs) one_text forms) in
-      AllDecided-from_report fs found report before.written now.written (subst (λ hs. IsReport hs found report) one_list right.3) took
+      AllDecided-from_report budget fs found report before.written now.written (subst (λ hs. IsReport budget hs found report) one_list right.3) took
 
 module _ (words : List (List ℕ)) (IsSound : Type 0) (HasRoom : ℕ → Type 0) (before now : Outside) where
   -- where no call failed, a text with forms is answered and any other refused
-  complete : (status : Status) → IsEnded words IsSound HasRoom before now status → (text : List ℕ)
-      → NoCallFailed words Ask text before now → IsAnsweredOrRefused text status
-  complete Clean e text calm =
+  complete : (status : Status) → IsEnded words IsSound HasRoom before now status → (budget : ℕ) (text : List ℕ)
+      → NoCallFailed words (Ask budget) text before now → IsAnsweredOrRefused text status
+  complete Clean e budget text calm =
       let reply = e.0.0 in
-      let right = answer_of words reply.text reply.report Clean (subst (λ s. IsReply words reply.text s reply.report) e.0.1 reply.right) in
-      record { answered = λ fs short forms. tt; refused = λ bad. of_report words before now text calm false reply.text reply.report reply.told right bad }
-  complete Found e text calm =
+      let right = answer_of words budget calm.meant reply.text reply.report Clean (subst (λ s. IsReply words reply.text s reply.report) e.0.1 reply.right) in
+      record { answered = λ fs short forms. tt; refused = λ bad. of_report words before now budget text calm false reply.text reply.report reply.told right bad }
+  complete Found e budget text calm =
       let reply = e.0.0 in
-      let right = answer_of words reply.text reply.report Found (subst (λ s. IsReply words reply.text s reply.report) e.0.1 reply.right) in
-      record { answered = λ fs short forms. tt; refused = λ bad. of_report words before now text calm true reply.text reply.report reply.told right bad }
-  complete Unreadable e text calm =
+      let right = answer_of words budget calm.meant reply.text reply.report Found (subst (λ s. IsReply words reply.text s reply.report) e.0.1 reply.right) in
+      record { answered = λ fs short forms. tt; refused = λ bad. of_report words before now budget text calm true reply.text reply.report reply.told right bad }
+  complete Unreadable e budget text calm =
       let reply = e.0 in
-      let right = answer_of words reply.text reply.report Unreadable (subst (λ s. IsReply words reply.text s reply.report) e.1 reply.right) in
-      record { answered = λ fs short forms. refused_not_read before.left text reply.text reply.report fs calm.told reply.told right short forms; refused = λ bad. tt }
-  complete Memory e text calm = record { answered = λ fs short forms. tt; refused = λ bad. tt }
-  complete Usage e text calm =
-      absurd (let right = subst (λ s. IsReply words e.0.text s e.0.report) e.1 e.0.right in right.0 Ask calm.meant)
-  complete SourceFault e text calm = absurd (calm.reads e.0)
-  complete SinkFault e text calm = absurd (calm.writes e.0)
+      let right = answer_of words budget calm.meant reply.text reply.report Unreadable (subst (λ s. IsReply words reply.text s reply.report) e.1 reply.right) in
+      record { answered = λ fs short forms. refused_not_read budget before.left text reply.text reply.report fs calm.told reply.told right short forms; refused = λ bad. tt }
+  complete Memory e budget text calm = record { answered = λ fs short forms. tt; refused = λ bad. tt }
+  complete Usage e budget text calm =
+      absurd (let right = subst (λ s. IsReply words e.0.text s e.0.report) e.1 e.0.right in right.0 (Ask budget) calm.meant)
+  complete SourceFault e budget text calm = absurd (calm.reads e.0)
+  complete SinkFault e budget text calm = absurd (calm.writes e.0)
 
   -- and each query of the text is decided, where memory was not wanting
   decided : (status : Status) → IsEnded words IsSound HasRoom before now status → DecidesAll words before now status
-  decided Clean e text fs calm enough short forms =
+  decided Clean e budget text fs calm enough short forms =
       let reply = e.0.0 in
-      let right = answer_of words reply.text reply.report Clean (subst (λ s. IsReply words reply.text s reply.report) e.0.1 reply.right) in
-      decides_report words before now text calm false reply.text reply.report fs reply.told right forms e.0.2
-  decided Found e text fs calm enough short forms =
+      let right = answer_of words budget calm.meant reply.text reply.report Clean (subst (λ s. IsReply words reply.text s reply.report) e.0.1 reply.right) in
+      decides_report words before now budget text calm false reply.text reply.report fs reply.told right forms e.0.2
+  decided Found e budget text fs calm enough short forms =
       let reply = e.0.0 in
-      let right = answer_of words reply.text reply.report Found (subst (λ s. IsReply words reply.text s reply.report) e.0.1 reply.right) in
-      decides_report words before now text calm true reply.text reply.report fs reply.told right forms e.0.2
-  decided Memory e text fs calm enough short forms = absurd (enough refl)
-  decided Usage e text fs calm enough short forms = absurd ((complete Usage e text calm).answered fs short forms)
-  decided Unreadable e text fs calm enough short forms = absurd ((complete Unreadable e text calm).answered fs short forms)
-  decided SourceFault e text fs calm enough short forms = absurd (calm.reads e.0)
-  decided SinkFault e text fs calm enough short forms = absurd (calm.writes e.0)
+      let right = answer_of words budget calm.meant reply.text reply.report Found (subst (λ s. IsReply words reply.text s reply.report) e.0.1 reply.right) in
+      decides_report words before now budget text calm true reply.text reply.report fs reply.told right forms e.0.2
+  decided Memory e budget text fs calm enough short forms = absurd (enough refl)
+  decided Usage e budget text fs calm enough short forms = absurd ((complete Usage e budget text calm).answered fs short forms)
+  decided Unreadable e budget text fs calm enough short forms = absurd ((complete Unreadable e budget text calm).answered fs short forms)
+  decided SourceFault e budget text fs calm enough short forms = absurd (calm.reads e.0)
+  decided SinkFault e budget text fs calm enough short forms = absurd (calm.writes e.0)
 
   is_complete : (status : Status) → IsEnded words IsSound HasRoom before now status → IsComplete words before now status
-  is_complete status e Ask text calm = complete status e text calm
+  is_complete status e (Ask budget) text calm = complete status e budget text calm
 
   -- a run that has replied has all that is said of runs
   pub HasRun-replied : (status : Status) → HasReplied words IsSound HasRoom before now status → HasRun words IsSound HasRoom before now status

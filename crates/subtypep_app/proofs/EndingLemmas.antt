@@ -13,24 +13,20 @@ use Rattle.subtypep_app.specs.Replies.{IsTold, IsAnswered, IsReply, Reply, bytes
 use Rattle.subtypep_app.specs.Runs.{Outside, ReadFailed, Wrote, WroteNothing, ReadAll, IsEnded, HasReplied}
 use Rattle.subtypep_app.specs.steps.Finishing.{IsFinished}
 
--- `ask` is the only command
-pub means_ask : (words : List (List ℕ)) (command : Command) → Means words command → Means words Ask
-means_ask words Ask is = is
-
 -- an answer is a reply to words that ask for it
-pub IsReply-from_answer : (words : List (List ℕ)) → Means words Ask → (text : List ℕ) (status : Status) (report : List ℕ)
-    → IsAnswered text status report → IsReply words text status report
-IsReply-from_answer words is text Clean report right = (Ask, is, right)
-IsReply-from_answer words is text Found report right = (Ask, is, right)
-IsReply-from_answer words is text Unreadable report right = (Ask, is, right)
-IsReply-from_answer words is text Usage report right = absurd right
-IsReply-from_answer words is text SourceFault report right = absurd right
-IsReply-from_answer words is text SinkFault report right = absurd right
-IsReply-from_answer words is text Memory report right = absurd right
+pub IsReply-from_answer : (words : List (List ℕ)) (budget : ℕ) → Means words (Ask budget) → (text : List ℕ) (status : Status) (report : List ℕ)
+    → IsAnswered budget text status report → IsReply words text status report
+IsReply-from_answer words budget is text Clean report right = (Ask budget, is, right)
+IsReply-from_answer words budget is text Found report right = (Ask budget, is, right)
+IsReply-from_answer words budget is text Unreadable report right = (Ask budget, is, right)
+IsReply-from_answer words budget is text Usage report right = absurd right
+IsReply-from_answer words budget is text SourceFault report right = absurd right
+IsReply-from_answer words budget is text SinkFault report right = absurd right
+IsReply-from_answer words budget is text Memory report right = absurd right
 
 -- with nothing left, all that the words ask for was read
 pub ReadAll-at_end : (words : List (List ℕ)) (left : Option (List ℕ)) → IsAtEnd left → ReadAll words left
-ReadAll-at_end words left end Ask is = end
+ReadAll-at_end words left end (Ask budget) is = end
 
 module _ (words : List (List ℕ)) (IsSound : Type 0) (HasRoom : ℕ → Type 0) (before now : Outside) where
   -- with all read that the words ask for, a reply that was written whole is an ending
@@ -40,9 +36,9 @@ module _ (words : List (List ℕ)) (IsSound : Type 0) (HasRoom : ℕ → Type 0)
   ends_whole Found text report right all wrote = (wrote, all)
   ends_whole Usage text report right all wrote = wrote
   ends_whole Unreadable text report right all wrote = wrote
-  ends_whole SourceFault text report (Ask, is, right) all wrote = absurd right
-  ends_whole SinkFault text report (Ask, is, right) all wrote = absurd right
-  ends_whole Memory text report (Ask, is, right) all wrote = absurd right
+  ends_whole SourceFault text report (Ask budget, is, right) all wrote = absurd right
+  ends_whole SinkFault text report (Ask budget, is, right) all wrote = absurd right
+  ends_whole Memory text report (Ask budget, is, right) all wrote = absurd right
 
   -- where the UTF-8 of a right report was written, or a write failed behind a prefix of it, the run has replied
   pub HasReplied-finished : (status result : Status) (text report bytes : List ℕ)

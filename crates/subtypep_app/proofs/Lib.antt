@@ -9,3 +9,4 @@ mod ReportLemmas
 mod ToldLemmas
 mod EndingLemmas
 mod CalmLemmas
+mod DeciderLemmas

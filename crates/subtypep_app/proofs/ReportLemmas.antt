@@ -43,9 +43,9 @@ module _ {X L : Type 0} (R : X → L → Type 0) (text_of : X → L → List ℕ
       rw (is, take_more xs i x within) (one_more (take i xs) (get_or xs i x) line found old new r right text)
 
 -- a report on the queries before a place goes on with what is appended for the query there
-pub AreReported-appended : (env : Environment) (qs : List Query) (i : ℕ) (q : Query) (found finding now : Bool) (old new : List ℕ) → i < length qs
-    → AreReported (IsLineOf env) line_text is_finding (take i qs) found old → LineAppended env (get_or qs i q) old new finding → now ≡ (found || finding)
-    → AreReported (IsLineOf env) line_text is_finding (take (i + 1) qs) now new
-AreReported-appended env qs i q found finding now old new within r appended is =
-    AreReported-more (IsLineOf env) line_text is_finding qs i q appended.line found now old new within r appended.right appended.text
+pub AreReported-appended : (budget : ℕ) (env : Environment) (qs : List Query) (i : ℕ) (q : Query) (found finding now : Bool) (old new : List ℕ) → i < length qs
+    → AreReported (IsLineOf budget env) line_text is_finding (take i qs) found old → LineAppended budget env (get_or qs i q) old new finding → now ≡ (found || finding)
+    → AreReported (IsLineOf budget env) line_text is_finding (take (i + 1) qs) now new
+AreReported-appended budget env qs i q found finding now old new within r appended is =
+    AreReported-more (IsLineOf budget env) line_text is_finding qs i q appended.line found now old new within r appended.right appended.text
     (is ∙ ap (λ b. found || b) appended.found_is)

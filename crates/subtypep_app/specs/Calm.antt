@@ -42,7 +42,7 @@ pub record IsAnsweredOrRefused (text : List ℕ) (status : Status) : Type 0 wher
   pub refused : IsUnreadable text → IsRefusedBy status
 
 abbrev pub IsCompleteFor : Command → List ℕ → Status → Type 0
-IsCompleteFor Ask text status = IsAnsweredOrRefused text status
+IsCompleteFor (Ask budget) text status = IsAnsweredOrRefused text status
 
 -- the status says what the command asks to be told, where no call failed
 abbrev pub IsComplete : List (List ℕ) → Outside → Outside → Status → Type 0
@@ -50,14 +50,14 @@ IsComplete words before now status = (command : Command) (text : List ℕ)
     → NoCallFailed words command text before now
     → IsCompleteFor command text status
 
--- with `ask` each query of a text is decided, where no call failed and memory was not wanting
+-- with `ask` each query of a text is decided within its budget, where no call failed and memory was not wanting
 abbrev pub DecidesAll : List (List ℕ) → Outside → Outside → Status → Type 0
-DecidesAll words before now status = (text : List ℕ) (fs : List Datum)
-    → NoCallFailed words Ask text before now
+DecidesAll words before now status = (budget : ℕ) (text : List ℕ) (fs : List Datum)
+    → NoCallFailed words (Ask budget) text before now
     → (status ≡ Memory → ⊥)
     → length text ≤ limit
     → Forms text fs
-    → AllDecided fs before.written now.written
+    → AllDecided budget fs before.written now.written
 
 -- What holds of a run with these words, between the moments before and now.
 pub record HasRun (words : List (List ℕ)) (IsSound : Type 0) (HasRoom : ℕ → Type 0) (before now : Outside) (status : Status) : Type 0 where
@@ -65,7 +65,7 @@ pub record HasRun (words : List (List ℕ)) (IsSound : Type 0) (HasRoom : ℕ �
   pub replied : HasReplied words IsSound HasRoom before now status
   -- where no call fails, a text with forms is answered and any other refused, unless memory is wanting
   pub complete : IsComplete words before now status
-  -- then the line of each query whose types resolve says Yes exactly where the first is included in the second, or it
-  -- shows an object that is in the first and not in the second; the line of any other query says what is wrong with
-  -- it, and where
+  -- then the line of each query whose types resolve says TooLarge exactly where the cost is more than the budget, and
+  -- else Yes exactly where the first is included in the second, or it shows an object that is in the first and not in
+  -- the second; the line of any other query says what is wrong with it, and where
   pub decided : DecidesAll words before now status

@@ -12,7 +12,8 @@ use Rattle.ls_env.specs.declared.query.Query.{Query}
 use Rattle.ls_env.specs.Environments.{Environment, environment}
 use Rattle.ls_grammar.specs.declared.refusal.Refusal.{Refusal}
 use Rattle.ls_grammar.specs.Visiting.{Resolves}
-use Rattle.subtypep_app.specs.declared.answer.Answer.TheVariants.{Yes, No, Unsure}
+use Rattle.ls_decide.specs.declared.answer.Answer.TheVariants.{Yes, No, Unsure, TooLarge}
+use Rattle.ls_lists.specs.Costs.{pair_cost}
 use Rattle.subtypep_app.specs.declared.line.Line.{Line}
 use Rattle.subtypep_app.specs.declared.line.Line.TheVariants.{Answered, Refused}
 use Rattle.subtypep_app.specs.Queries.{Question, inclusion, question_of, refusal_of_question}
@@ -28,24 +29,28 @@ abbrev pub HasUnsureWitness : Structures → Specifier → Specifier → Line �
 HasUnsureWitness structures a b line =
     (o : Object) × (line ≡ Answered (Unsure o)) × IsUnsureWitness structures a b (lisp_object o)
 
--- The line says Yes exactly where the first type is included in the second. Otherwise it has a witness, or it is
--- unsure, which it never is without predicates.
-pub record IsDecided (structures : Structures) (a b : Specifier) (line : Line) : Type 0 where
-  pub yes : (line ≡ Answered Yes) ↔ IsIncluded structures a b
-  pub no : (IsIncluded structures a b → ⊥) → HasWitness structures a b line ⊎ HasUnsureWitness structures a b line
-  pub sure : HasNoPredicate a → HasNoPredicate b → (IsIncluded structures a b → ⊥) → HasWitness structures a b line
+-- The line is TooLarge exactly where the cost of the pair is more than the budget. Else it says Yes exactly where the
+-- first type is included in the second, and otherwise it has a witness, or it is unsure, which it never is without
+-- predicates.
+pub record IsDecided (structures : Structures) (a b : Specifier) (budget : ℕ) (line : Line) : Type 0 where
+  pub too_large : (line ≡ Answered TooLarge) ↔ (budget < pair_cost a b)
+  pub yes : pair_cost a b ≤ budget → (line ≡ Answered Yes) ↔ IsIncluded structures a b
+  pub no : pair_cost a b ≤ budget → (IsIncluded structures a b → ⊥)
+      → HasWitness structures a b line ⊎ HasUnsureWitness structures a b line
+  pub sure : pair_cost a b ≤ budget → HasNoPredicate a → HasNoPredicate b → (IsIncluded structures a b → ⊥)
+      → HasWitness structures a b line
 
 -- A line decides the query where both of its types resolve. Where it is refused, the line says why.
-pub record IsLineFor (env : Environment) (question : Question) (line : Line) : Type 0 where
+pub record IsLineFor (budget : ℕ) (env : Environment) (question : Question) (line : Line) : Type 0 where
   pub decided : (a b : Datum) (s t : Specifier) → question ≡ inclusion a b → Resolves env a s → Resolves env b t
-      → IsDecided env.structures s t line
+      → IsDecided env.structures s t budget line
   pub refused : (x : Refusal) → refusal_of_question env question ≡ Some x → line ≡ Refused x
 
 -- What the sink took is a line for each query of the forms, in order, and each line is for its query.
-pub record AllDecided (fs : List Datum) (before now : Option (List ℕ)) : Type 0 where
+pub record AllDecided (budget : ℕ) (fs : List Datum) (before now : Option (List ℕ)) : Type 0 where
   pub lines : List Line
   pub taken : Took before now (encode_utf8_all (lines_text line_text (environment fs).queries lines))
   pub count : length lines ≡ length (environment fs).queries
   pub each : (i : ℕ) (query : Query)
       → slice_get (environment fs).queries i ≡ Some query
-      → (line : Line) × (slice_get lines i ≡ Some line) × IsLineFor (environment fs) (question_of query) line
+      → (line : Line) × (slice_get lines i ≡ Some line) × IsLineFor budget (environment fs) (question_of query) line

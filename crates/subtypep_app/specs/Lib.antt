@@ -1,5 +1,4 @@
 pub mod Words
-pub mod Answers
 pub mod Queries
 pub mod Report
 pub mod Replies

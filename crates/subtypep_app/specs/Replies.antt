@@ -19,28 +19,29 @@ pub record IsRefusedWith (text : List ℕ) (e : ReadError) : Type 0 where
   pub no_memory : e ≡ errors.Memory → ⊥
   pub fault : IsFaultOf text e
 
--- a text that can be read has this report
-abbrev pub IsReportOf : List ℕ → Bool → List ℕ → Type 0
-IsReportOf text found report = (length text ≤ limit) × (fs : List Datum) × Forms text fs × IsReport fs found report
+-- a text that can be read has this report, under a budget
+abbrev pub IsReportOf : ℕ → List ℕ → Bool → List ℕ → Type 0
+IsReportOf budget text found report =
+    (length text ≤ limit) × (fs : List Datum) × Forms text fs × IsReport budget fs found report
 
--- A text is answered by this status and this whole report, as characters.
-abbrev pub IsAnswered : List ℕ → Status → List ℕ → Type 0
-IsAnswered text Clean report = IsReportOf text false report
-IsAnswered text Found report = IsReportOf text true report
-IsAnswered text Unreadable report =
+-- A text is answered by this status and this whole report, as characters, under a budget.
+abbrev pub IsAnswered : ℕ → List ℕ → Status → List ℕ → Type 0
+IsAnswered budget text Clean report = IsReportOf budget text false report
+IsAnswered budget text Found report = IsReportOf budget text true report
+IsAnswered budget text Unreadable report =
     ((limit < length text) × (report ≡ too_long_text))
     ⊎ ((length text ≤ limit) × (e : ReadError) × IsRefusedWith text e × (report ≡ fault_text e))
-IsAnswered text Usage report = ⊥
-IsAnswered text SourceFault report = ⊥
-IsAnswered text SinkFault report = ⊥
-IsAnswered text Memory report = ⊥
+IsAnswered budget text Usage report = ⊥
+IsAnswered budget text SourceFault report = ⊥
+IsAnswered budget text SinkFault report = ⊥
+IsAnswered budget text Memory report = ⊥
 
 abbrev pub usage_text : List ℕ
 usage_text = codes "usage: subtypep_app ask|check|gen N [--budget N]" ++ 10 ∷ []
 
 -- A command replies to a text by this status and this whole report, as characters.
 abbrev pub RepliesTo : Command → List ℕ → Status → List ℕ → Type 0
-RepliesTo Ask text status report = IsAnswered text status report
+RepliesTo (Ask budget) text status report = IsAnswered budget text status report
 
 -- The words, and a text if they mean a command, are replied to by this status and this whole report.
 abbrev pub IsReply : List (List ℕ) → List ℕ → Status → List ℕ → Type 0
@@ -68,4 +69,4 @@ bytes_of reply = encode_utf8_all reply.report
 
 -- what the command reads was read: `ask` reads its text to the end
 abbrev pub HasRead : Command → Option (List ℕ) → Type 0
-HasRead Ask left = IsAtEnd left
+HasRead (Ask budget) left = IsAtEnd left

@@ -13,9 +13,9 @@ use Rattle.ls_env.specs.Environments.{Environment, environment}
 use Rattle.ls_grammar.specs.declared.refusal.RefusalKind.{RefusalKind}
 use Rattle.ls_grammar.specs.declared.refusal.RefusalKind.TheVariants as kind
 use Rattle.ls_grammar.specs.Visiting.{Resolves}
-use Rattle.subtypep_app.specs.declared.answer.Answer.{Answer}
-use Rattle.subtypep_app.specs.declared.answer.Answer.TheVariants.{Yes, No, Unsure}
-use Rattle.subtypep_app.specs.Answers.{IsRight}
+use Rattle.ls_decide.specs.declared.answer.Answer.{Answer}
+use Rattle.ls_decide.specs.declared.answer.Answer.TheVariants.{Yes, No, Unsure, TooLarge}
+use Rattle.ls_decide.specs.Answers.{IsRight}
 use Rattle.subtypep_app.specs.declared.line.Line.{Line}
 use Rattle.subtypep_app.specs.declared.line.Line.TheVariants.{Answered, Refused}
 use Rattle.subtypep_app.specs.Queries.{Question, inclusion, refused, question_of, refusal_of_question}
@@ -38,16 +38,17 @@ pub record AreReported {X L : Type 0} (IsRightFor : X → L → Type 0) (text_of
 
 -- ---- the lines of queries
 
--- A line is right for what was asked: it is the refusal, or it answers about the specifiers of both types.
-abbrev pub IsRightLine : Environment → Question → Line → Type 0
-IsRightLine env question (Refused x) = refusal_of_question env question ≡ Some x
-IsRightLine env (inclusion a b) (Answered answer) =
-    (s : Specifier) × (t : Specifier) × Resolves env a s × Resolves env b t × IsRight env.structures s t answer
-IsRightLine env (refused x) (Answered answer) = ⊥
+-- A line is right for what was asked: it is the refusal, or it answers about the specifiers of both types, under the
+-- budget.
+abbrev pub IsRightLine : ℕ → Environment → Question → Line → Type 0
+IsRightLine budget env question (Refused x) = refusal_of_question env question ≡ Some x
+IsRightLine budget env (inclusion a b) (Answered answer) =
+    (s : Specifier) × (t : Specifier) × Resolves env a s × Resolves env b t × IsRight env.structures s t budget answer
+IsRightLine budget env (refused x) (Answered answer) = ⊥
 
 -- the line is right for the query
-abbrev pub IsLineOf : Environment → Query → Line → Type 0
-IsLineOf env query line = IsRightLine env (question_of query) line
+abbrev pub IsLineOf : ℕ → Environment → Query → Line → Type 0
+IsLineOf budget env query line = IsRightLine budget env (question_of query) line
 
 -- a place is its line and its column
 abbrev pub place_text : Span → List ℕ
@@ -57,6 +58,7 @@ abbrev pub answer_text : Answer → List ℕ
 answer_text Yes = codes "T"
 answer_text (No o) = codes "NIL WITNESS " ++ object_text (lisp_object o)
 answer_text (Unsure o) = codes "NIL UNSURE " ++ object_text (lisp_object o)
+answer_text TooLarge = codes "TOO-LARGE"
 
 -- a kind is written in capitals, with a hyphen between its words
 abbrev pub refusal_name : RefusalKind → List ℕ
@@ -85,17 +87,18 @@ text_at span line = place_text span ++ codes " " ++ body_text line ++ 10 ∷ []
 abbrev pub line_text : Query → Line → List ℕ
 line_text query line = text_at query.form.span line
 
--- a refusal is a finding; such a word inside a printed object does not count
+-- a refusal is a finding, and so is a query that costs too much; such a word inside a printed object does not count
 abbrev pub is_finding : Line → Bool
 is_finding (Answered Yes) = false
 is_finding (Answered (No o)) = false
 is_finding (Answered (Unsure o)) = false
+is_finding (Answered TooLarge) = true
 is_finding (Refused x) = true
 
--- the report on the queries of forms
-abbrev pub IsReport : List Datum → Bool → List ℕ → Type 0
-IsReport fs found report =
-    AreReported (IsLineOf (environment fs)) line_text is_finding (environment fs).queries found report
+-- the report on the queries of forms, under a budget
+abbrev pub IsReport : ℕ → List Datum → Bool → List ℕ → Type 0
+IsReport budget fs found report =
+    AreReported (IsLineOf budget (environment fs)) line_text is_finding (environment fs).queries found report
 
 -- ---- the line of a text that can't be read
 

@@ -8,9 +8,9 @@ use Rattle.subtypep_app.specs.declared.words.Command.TheVariants.{Ask}
 abbrev pub texts : List (String Global) → List (List ℕ)
 texts words = map string_bytes words
 
--- the words mean this command
+-- The words mean this command. The budget of each query is 4,194,304, where the words name none.
 abbrev pub Means : List (List ℕ) → Command → Type 0
-Means words Ask = words ≡ codes "ask" ∷ []
+Means words (Ask budget) = (words ≡ codes "ask" ∷ []) × (budget ≡ 4194304)
 
 -- the words mean no command
 abbrev pub MeanNothing : List (List ℕ) → Type 0

@@ -5,3 +5,4 @@ pub mod Asking
 pub mod Lines
 pub mod Reporting
 pub mod Finishing
+pub mod Deciding

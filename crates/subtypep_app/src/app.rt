@@ -1,6 +1,6 @@
 // One run of the program, over any source and any sink.
 
-ghost use Rattle.std.specs.Prelude.{◌≡◌, ◌≤◌, ℕ, List};
+ghost use Rattle.std.specs.Prelude.{◌≡◌, ◌≤◌, ◌^◌, ℕ, List};
 ghost use Rattle.subtypep_app.specs.Words.{texts, Means, MeanNothing};
 ghost use Rattle.subtypep_app.specs.Runs.{outside, HasReplied, IsUsage};
 ghost use Rattle.subtypep_app.specs.Calm.{HasRun};
@@ -29,16 +29,17 @@ fn finish<K: Sink>(sink: &mut K, bytes: &[u8], status: Status) -> Status
     }
 }
 
-/// Reads the text to its end, and answers its queries.
-fn ask<S: Source, K: Sink>(alloc: Global, source: &mut S, sink: &mut K) -> Status
-    ensures { (words : List (List ℕ)) → Means words Ask
+/// Reads the text to its end, and answers its queries, each within the budget.
+fn ask<S: Source, K: Sink>(alloc: Global, budget: u64, source: &mut S, sink: &mut K) -> Status
+    requires { budget ≤ 2 ^ 30 }
+    ensures { (words : List (List ℕ)) → Means words (Ask budget)
         → HasReplied words (S.is_sound source.old) (K.has_room sink.old)
         (outside (S.left source.old) (K.written sink.old) (S.failures source.old) (K.failures sink.old))
         (outside (S.left source.new) (K.written sink.new) (S.failures source.new) (K.failures sink.new))
         result }
 {
     match read_all(alloc, source) {
-        Ok(text) => match report_of(alloc, &text) {
+        Ok(text) => match report_of(alloc, budget, &text) {
             Ok(report) => finish(sink, report.text.as_bytes(), report.status),
             Err(_) => Status::Memory,
         },
@@ -62,7 +63,7 @@ fn reply<S: Source, K: Sink>(
     ensures usage { MeanNothing (texts words.now) → IsUsage result × (source.new ≡ source.old) }
 {
     match command_of(words) {
-        Some(Command::Ask) => ask(alloc, source, sink),
+        Some(Command::Ask { budget }) => ask(alloc, budget, source, sink),
         None => finish(sink, USAGE, Status::Usage),
     }
 }

@@ -9,10 +9,11 @@ ghost use Rattle.ls_spec.specs.Meaning.{specifier};
 ghost use Rattle.ls_spec.specs.Membership.{Belongs};
 ghost use Rattle.ls_spec.specs.Inclusion.{IsWitness};
 ghost use Rattle.subtypep_app.specs.steps.Built.{IsBuilt, IsDecidable};
-ghost use Rattle.subtypep_app.specs.Answers.{IsRight, IsPlainAnswer};
+ghost use Rattle.ls_decide.specs.Answers.{IsPlainAnswer};
+ghost use Rattle.subtypep_app.specs.steps.Deciding.{IsRightWithin};
 ghost use Rattle.subtypep_app.specs.steps.Searching.{Separates, Passes, IsFound, IsFlatObject, IsCompound, IsAny, AreAtomsOfTwo, nil};
 
-use crate::answer::Answer;
+use ls_decide::Answer;
 use ls_object::{Boxed, Code, Dims, Items, Object, Rat, Shape, Symbol};
 use ls_points::{CharRegions, NumberRegions, OpaqueRegions, SymbolRegions};
 use ls_spec::{Regions, Spec, atoms, belongs};
@@ -215,7 +216,7 @@ fn atoms_of_two(alloc: Global, a: &Spec, b: &Spec) -> Result<Items<Spec>, AllocE
 pub(crate) fn decide(alloc: Global, a: &Spec, b: &Spec) -> Result<Answer, AllocError>
     requires first { IsDecidable (specifier a.now) }
     requires second { IsDecidable (specifier b.now) }
-    ensures right { IfOk result (IsRight [] (specifier a.now) (specifier b.now)) }
+    ensures right { IfOk result (IsRightWithin [] (specifier a.now) (specifier b.now)) }
     ensures plain { IfOk result IsPlainAnswer }
 {
     let atoms = atoms_of_two(alloc, a, b)?;

@@ -6,9 +6,9 @@ ghost use Rattle.subtypep_app.specs.Report.{IsRightLine, IsLineOf, is_finding};
 ghost use Rattle.subtypep_app.specs.steps.Asking.{line_of_stop};
 ghost use Rattle.subtypep_app.specs.steps.Lines.{IsPlainLine};
 
-use crate::answer::Answer;
-use crate::decide::decide;
+use crate::decider::Decider;
 use crate::query::{Question, question_of};
+use ls_decide::Answer;
 use ls_env::{Env, Query};
 use ls_grammar::{Refusal, Stop, resolve};
 use ls_reader::Datum;
@@ -23,12 +23,13 @@ pub(crate) enum Line {
 }
 
 impl Line {
-    /// Whether the line leaves the query open, by a refusal.
+    /// Whether the line leaves the query open: by a refusal, or since it costs too much.
     pub(crate) fn is_finding(&self) -> bool
         ensures { result ≡ is_finding self.now }
     {
         match self {
             Line::Answered(Answer::Yes | Answer::No(_) | Answer::Unsure(_)) => false,
+            Line::Answered(Answer::TooLarge) => true,
             Line::Refused(_) => true,
         }
     }
@@ -49,11 +50,12 @@ fn stopped_line(stop: Stop) -> Result<Line, AllocError>
 fn inclusion_line(
     alloc: Global,
     env: &Env,
+    decider: &Decider,
     first: &Datum,
     second: &Datum,
 ) -> Result<Line, AllocError>
     requires structures { env.now.structures ≡ [] }
-    ensures right { IfOk result (IsRightLine env.now (inclusion first.now second.now)) }
+    ensures right { IfOk result (IsRightLine decider.now.budget env.now (inclusion first.now second.now)) }
     ensures plain { IfOk result IsPlainLine }
 {
     let a = match resolve(alloc, env, first) {
@@ -64,17 +66,22 @@ fn inclusion_line(
         Ok(spec) => spec,
         Err(stop) => return stopped_line(stop),
     };
-    Ok(Line::Answered(decide(alloc, &a, &b)?))
+    Ok(Line::Answered(decider.answer(alloc, &a, &b)?))
 }
 
 /// A right line for a query.
-pub(crate) fn line_of(alloc: Global, env: &Env, query: &Query) -> Result<Line, AllocError>
+pub(crate) fn line_of(
+    alloc: Global,
+    env: &Env,
+    decider: &Decider,
+    query: &Query,
+) -> Result<Line, AllocError>
     requires structures { env.now.structures ≡ [] }
-    ensures right { IfOk result (IsLineOf env.now query.now) }
+    ensures right { IfOk result (IsLineOf decider.now.budget env.now query.now) }
     ensures plain { IfOk result IsPlainLine }
 {
     match question_of(query) {
-        Question::Inclusion(first, second) => { inclusion_line(alloc, env, first, second) }
+        Question::Inclusion(first, second) => { inclusion_line(alloc, env, decider, first, second) }
         Question::Refused(refusal) => Ok(Line::Refused(refusal)),
     }
 }

@@ -10,8 +10,8 @@ mod words;
 mod query;
 
 // The answer to a query.
-mod answer;
 mod decide;
+mod decider;
 
 // The line of a query and its text, and the report of a text.
 mod line;

@@ -1,18 +1,21 @@
 // The report on a text.
 
-ghost use Rattle.std.specs.Prelude.{◌≡◌, ◌≤◌, ◌++◌, [], length, IfOk, OnOk};
+ghost use Rattle.std.specs.Prelude.{◌≡◌, ◌≤◌, ◌++◌, ◌^◌, [], length, IfOk, OnOk};
 ghost use Rattle.std.specs.Str.{IsAscii};
 ghost use Rattle.ls_io.specs.Moves.{limit};
 ghost use Rattle.subtypep_app.specs.Replies.{IsAnswered};
 ghost use Rattle.subtypep_app.specs.Report.{AreReported, IsLineOf, IsReport, fault_body, fault_text, is_finding, line_text, place_text};
 ghost use Rattle.subtypep_app.specs.steps.Reporting.{LineAppended, status_for};
 
+use crate::decider::Decider;
 use crate::line::line_of;
 use crate::status::Status;
 use crate::text::{push_line, push_place};
+use ls_decide::Session;
 use ls_env::{Env, Query};
 use ls_object::{Items, Text};
 use ls_reader::{Datum, ReadError, Span, read_text};
+use ls_structs::Tree;
 use std::alloc::{AllocError, Global};
 
 /// A whole report, and the status that stands for it.
@@ -23,11 +26,17 @@ pub(crate) struct Report {
 }
 
 /// Appends the line of a query, and says whether the line is a finding.
-fn push_query(alloc: Global, env: &Env, query: &Query, out: &mut Text) -> Result<bool, AllocError>
+fn push_query(
+    alloc: Global,
+    env: &Env,
+    decider: &Decider,
+    query: &Query,
+    out: &mut Text,
+) -> Result<bool, AllocError>
     requires structures { env.now.structures ≡ [] }
-    ensures { IfOk result (LineAppended env.now query.now out.old out.new) }
+    ensures { IfOk result (LineAppended decider.now.budget env.now query.now out.old out.new) }
 {
-    let line = line_of(alloc, env, query)?;
+    let line = line_of(alloc, env, decider, query)?;
     push_line(out, query.form.span, &line)?;
     Ok(line.is_finding())
 }
@@ -36,28 +45,32 @@ fn push_query(alloc: Global, env: &Env, query: &Query, out: &mut Text) -> Result
 fn push_queries(
     alloc: Global,
     env: &Env,
+    decider: &Decider,
     queries: &[Query],
     out: &mut Text,
 ) -> Result<bool, AllocError>
     requires empty { out.old ≡ [] }
     requires structures { env.now.structures ≡ [] }
-    ensures { IfOk result (λ found. AreReported (IsLineOf env.now) line_text is_finding queries.now found out.new) }
+    ensures { IfOk result (λ found. AreReported (IsLineOf decider.now.budget env.now) line_text is_finding queries.now found out.new) }
 {
     let mut found = false;
     for query in queries {
-        let finding = push_query(alloc, env, query, out)?;
+        let finding = push_query(alloc, env, decider, query, out)?;
         found = found || finding;
     }
     Ok(found)
 }
 
 /// The report on the queries of a file, and whether one of its lines is a finding.
-fn report_on(alloc: Global, forms: &Items<Datum>) -> Result<(Text, bool), AllocError>
-    ensures { IfOk result (λ made. IsReport forms.now made.1 made.0) }
+fn report_on(alloc: Global, budget: u64, forms: &Items<Datum>) -> Result<(Text, bool), AllocError>
+    requires { budget ≤ 2 ^ 30 }
+    ensures { IfOk result (λ made. IsReport budget forms.now made.1 made.0) }
 {
     let env = Env::of_file(alloc, forms)?;
+    let session = Session::new(alloc, Tree::new(alloc))?;
+    let decider = Decider { session, budget };
     let mut text = Text::of_ascii(alloc, "")?;
-    let found = push_queries(alloc, &env, env.queries().as_slice(), &mut text)?;
+    let found = push_queries(alloc, &env, &decider, env.queries().as_slice(), &mut text)?;
     Ok((text, found))
 }
 
@@ -103,14 +116,15 @@ fn fault_line(alloc: Global, error: &ReadError) -> Result<Text, AllocError>
     Ok(text)
 }
 
-/// The report that answers a text.
-pub(crate) fn report_of(alloc: Global, text: &[u8]) -> Result<Report, AllocError>
+/// The report that answers a text, with this budget for each query.
+pub(crate) fn report_of(alloc: Global, budget: u64, text: &[u8]) -> Result<Report, AllocError>
     requires short { length text.now ≤ limit }
-    ensures { IfOk result (λ report. IsAnswered text.now report.status report.text) }
+    requires budget { budget ≤ 2 ^ 30 }
+    ensures { IfOk result (λ report. IsAnswered budget text.now report.status report.text) }
 {
     match read_text(alloc, text) {
         Ok(forms) => {
-            let (text, found) = report_on(alloc, &forms)?;
+            let (text, found) = report_on(alloc, budget, &forms)?;
             let status = status_for(found);
             Ok(Report { text, status })
         }

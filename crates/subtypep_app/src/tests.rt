@@ -285,6 +285,30 @@ fn a_specifier_has_so_many_parts(rt: HostRuntime) -> Result<(), Fail> {
     Ok(())
 }
 
+/// A query about a MEMBER of so many integers.
+fn members(alloc: Global, count: u32) -> Result<String, AllocError> {
+    let mut text = String::from_str(alloc, "(subtypep '(member")?;
+    for n in 0..count {
+        write!(text, " {n}")?;
+    }
+    text.push_str(") nil)")?;
+    Ok(text)
+}
+
+/// For n integers the cost is (23 + 3 * n) * (1 + n / 64), which is more than 4,194,304 from 9,439 integers on.
+#[test]
+fn a_query_may_cost_too_much(rt: HostRuntime) -> Result<(), Fail> {
+    let text = members(rt.alloc(), 9_438)?;
+    let got = outcome_of(rt.alloc(), &Case::ask(text.as_bytes()))?;
+    assert!(rt; got.bytes.starts_with(b"1:1 NIL WITNESS "));
+    assert_eq!(rt; got.status, Status::Clean);
+    let text = members(rt.alloc(), 9_439)?;
+    let got = outcome_of(rt.alloc(), &Case::ask(text.as_bytes()))?;
+    assert_eq!(rt; got.bytes.as_slice(), b"1:1 TOO-LARGE\n".as_slice());
+    assert_eq!(rt; got.status, Status::Found);
+    Ok(())
+}
+
 /// The line of a text that has a fault.
 #[test]
 fn faults_are_named_with_their_places(rt: HostRuntime) -> Result<(), Fail> {

@@ -2,13 +2,13 @@
 
 ghost use Rattle.std.specs.Prelude.{◌≡◌, ◌++◌, OnOk};
 ghost use Rattle.std.specs.Str.{IsAscii};
-ghost use Rattle.subtypep_app.specs.Answers.{IsPlainAnswer};
+ghost use Rattle.ls_decide.specs.Answers.{IsPlainAnswer};
 ghost use Rattle.subtypep_app.specs.Report.{answer_text, body_text, refusal_name, place_text, text_at};
 ghost use Rattle.subtypep_app.specs.steps.Lines.{IsPlainLine};
 
-use crate::answer::Answer;
 use crate::line::Line;
 use itoa::Buffer;
+use ls_decide::Answer;
 use ls_grammar::{Refusal, RefusalKind};
 use ls_object::Text;
 use ls_reader::Span;
@@ -39,6 +39,7 @@ fn push_answer(out: &mut Text, answer: &Answer) -> Result<(), AllocError>
             out.push_ascii("NIL UNSURE ")?;
             object.write_text(out)?;
         }
+        Answer::TooLarge => out.push_ascii("TOO-LARGE")?,
     }
     Ok(())
 }

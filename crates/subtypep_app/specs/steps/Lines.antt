@@ -1,7 +1,7 @@
 -- Which lines have a plain witness, or none: the lines that can be written.
 use Rattle.subtypep_app.specs.declared.line.Line.{Line}
 use Rattle.subtypep_app.specs.declared.line.Line.TheVariants.{Answered, Refused}
-use Rattle.subtypep_app.specs.Answers.{IsPlainAnswer}
+use Rattle.ls_decide.specs.Answers.{IsPlainAnswer}
 
 abbrev pub IsPlainLine : Line → Type 0
 IsPlainLine (Answered answer) = IsPlainAnswer answer

@@ -8,9 +8,9 @@ use Rattle.subtypep_app.specs.declared.status.Status.TheVariants.{Clean, Found}
 use Rattle.subtypep_app.specs.Report.{IsLineOf, line_text, is_finding}
 
 -- a right line was appended for the query
-pub record LineAppended (env : Environment) (query : Query) (old new : List ℕ) (found : Bool) : Type 0 where
+pub record LineAppended (budget : ℕ) (env : Environment) (query : Query) (old new : List ℕ) (found : Bool) : Type 0 where
   pub line : Line
-  pub right : IsLineOf env query line
+  pub right : IsLineOf budget env query line
   pub text : new ≡ old ++ line_text query line
   pub found_is : found ≡ is_finding line
 

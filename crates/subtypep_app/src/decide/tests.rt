@@ -203,7 +203,7 @@ fn agrees(a: &Spec, b: &Spec, answer: &Answer, objects: &[Object]) -> bool
     match answer {
         Answer::Yes => !some_is_apart(a, b, objects),
         Answer::No(witness) => some_is_apart(a, b, objects) && is_apart(a, b, witness),
-        Answer::Unsure(_) => false,
+        Answer::Unsure(_) | Answer::TooLarge => false,
     }
 }
 

@@ -1,15 +1,24 @@
-use Rattle.std.proofs.Common.{refl}
+use Rattle.std.proofs.Common.{◌≡◌, ℕ, List, [], ◌∷◌, refl}
+use Rattle.std.specs.Prelude.{codes}
+use borrow.Enum.Total.{values_d}
+use Rattle.subtypep_app.specs.contracts.words.Command.{enum}
+use Rattle.subtypep_app.specs.declared.words.Command.{Command}
+use Rattle.subtypep_app.specs.declared.words.Command.TheVariants.{Ask}
 use Rattle.subtypep_app.specs.declared.status.Status.TheVariants.{Usage}
-use Rattle.subtypep_app.specs.Words.{texts}
+use Rattle.subtypep_app.specs.Words.{texts, Means}
 use Rattle.subtypep_app.specs.Replies.{usage_text}
 use Rattle.subtypep_app.proofs.ToldLemmas.{told_any, usage_bytes}
-use Rattle.subtypep_app.proofs.EndingLemmas.{means_ask, HasReplied-finished}
+use Rattle.subtypep_app.proofs.EndingLemmas.{HasReplied-finished}
 use Rattle.subtypep_app.proofs.app.reply.Goals as goal
+
+-- the budget of a command is the field of its one variant
+means_budget : (words : List (List ℕ)) (command : Command) → Means words command → (words ≡ codes "ask" ∷ []) × ((values_d enum 0 (0, tt) command).0 ≡ 4194304)
+means_budget words (Ask budget) means = means
 
 -- the words ask for answers
 pub returns-in-Some-Ask-clause-replied : goal.returns-in-Some-Ask-clause-replied
 returns-in-Some-Ask-clause-replied g c =
-    c.ask.ensures (texts c.args.words.now) (means_ask (texts c.args.words.now) c.in-Some-Ask.field-0 c.in-Some-Ask.ensures)
+    c.ask.ensures (texts c.args.words.now) (means_budget (texts c.args.words.now) c.in-Some-Ask.field-0 c.in-Some-Ask.ensures)
 
 -- the words mean nothing: any text will do
 pub returns-in-None-clause-replied : goal.returns-in-None-clause-replied

@@ -6,6 +6,6 @@ use Rattle.subtypep_app.proofs.report.push_queries.Goals as goal
 pub loop-query-preserved : goal.loop-query-preserved
 loop-query-preserved c =
     let is : c.if-found.found ≡ (c.loop-query.found || c.in_ok-finding.finding) = grind arith in
-    AreReported-appended c.args.env.now c.args.queries.now c.loop-query.query-index c.query-item.result c.loop-query.found c.in_ok-finding.finding c.if-found.found c.loop-query.out c.push_query.new.out
+    AreReported-appended c.args.decider.now.budget c.args.env.now c.args.queries.now c.loop-query.query-index c.query-item.result c.loop-query.found c.in_ok-finding.finding c.if-found.found c.loop-query.out c.push_query.new.out
     c.loop-query-test.true c.loop-query.invariant
-    (subst (λ q. LineAppended c.args.env.now q c.loop-query.out c.push_query.new.out c.in_ok-finding.finding) c.query-item.is c.in_ok-finding.ensures) is
+    (subst (λ q. LineAppended c.args.decider.now.budget c.args.env.now q c.loop-query.out c.push_query.new.out c.in_ok-finding.finding) c.query-item.is c.in_ok-finding.ensures) is

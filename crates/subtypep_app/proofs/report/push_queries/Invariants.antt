@@ -3,4 +3,4 @@ use Rattle.subtypep_app.specs.Report.{AreReported, IsLineOf, line_text, is_findi
 use Rattle.subtypep_app.proofs.report.push_queries.Given as goal
 
 abbrev pub invariant-loop-query : goal.invariant-loop-query
-invariant-loop-query l = AreReported (IsLineOf l.env) line_text is_finding (take l.query-index l.queries) l.found l.out
+invariant-loop-query l = AreReported (IsLineOf l.decider.budget l.env) line_text is_finding (take l.query-index l.queries) l.found l.out
