@@ -1,0 +1,130 @@
+#!/usr/bin/env python3
+"""Compares what the documents say with what the program prints.
+
+    .ci/documents.py PROGRAM
+
+Checked are: the tables of docs/manual.md with the columns Text and Line; each command in an indented block of
+README.md and docs/manual.md that a block of output follows; the comments `; => ..` behind the queries of
+examples/*.lisp; and that docs/architecture.md has the crates of crates.txt, in that order, each with the libraries
+that it stands on.
+"""
+import os
+import re
+import subprocess
+import sys
+
+TOP = os.path.dirname(os.path.dirname(os.path.abspath(__file__)))
+
+
+def read(name):
+    with open(os.path.join(TOP, name), encoding='utf-8') as file:
+        return file.read()
+
+
+def printed(program, words, text):
+    done = subprocess.run([program, *words], input=text.encode(), capture_output=True, check=False)
+    return done.stdout.decode()
+
+
+def cells(row):
+    parts = re.split(r'(?<!\\)\|', row.strip())[1:-1]
+    return [part.strip().replace('\\|', '|') for part in parts]
+
+
+def code_span(cell):
+    match = re.match(r'(`+) ?(.*?) ?\1', cell)
+    return match.group(2) if match else None
+
+
+def rows(page, header):
+    """The rows of each table of the page with that header."""
+    lines = page.splitlines()
+    for at, line in enumerate(lines):
+        if line.startswith('|') and cells(line)[:len(header)] == header:
+            for row in lines[at + 2:]:
+                if not row.startswith('|'):
+                    break
+                yield cells(row)
+
+
+def table_faults(program, name):
+    count = 0
+    for row in rows(read(name), ['Text', 'Line']):
+        text, wanted = code_span(row[0]), code_span(row[1])
+        lines = '' if row[1] == 'none' else f'{wanted}\n'
+        got = printed(program, ['ask'], text)
+        count += 1
+        if got != lines:
+            yield f'{name}: {text} prints {got!r}, and not {lines!r}'
+    if count == 0:
+        yield f'{name}: no table of texts and lines was found'
+
+
+def blocks(page):
+    """The indented blocks of a page, in order."""
+    return [re.sub(r'(?m)^    ', '', block) for block in re.findall(r'(?m)(?:^    .*\n)+', page)]
+
+
+def command_faults(program, name):
+    found = blocks(read(name))
+    for command, output in zip(found, found[1:]):
+        match = re.fullmatch(r'\./selvdrik ([^<]*)< (examples/\S+)\n', command)
+        if match:
+            got = printed(program, match.group(1).split(), read(match.group(2)))
+            if got != output:
+                yield f'{name}: {command.strip()} prints\n{got}and not\n{output}'
+
+
+def agrees(line, wanted):
+    """Whether an answered line is of the wanted kind: which witness is printed is free."""
+    said = line.split(' ', 1)[1]
+    if wanted == 'NIL':
+        return said.startswith('NIL WITNESS ')
+    return said == wanted or said.startswith(wanted + ' ')
+
+
+def example_faults(program, name):
+    text = read(name)
+    wanted = re.findall(r'; => ([A-Z0-9 -]+)', text)
+    got = printed(program, ['ask'], text).splitlines()
+    if not wanted or len(wanted) != len(got):
+        yield f'{name}: {len(got)} lines for {len(wanted)} expectations'
+        return
+    for line, want in zip(got, wanted):
+        if not agrees(line, want.strip()):
+            yield f'{name}: {line}, and not {want}'
+
+
+def crate_faults():
+    listed = [line.split('#')[0].split(':') for line in read('crates.txt').splitlines() if line.split('#')[0].strip()]
+    wanted = [(name.split()[0], set(libraries.split())) for name, libraries in listed]
+    told = []
+    for row in rows(read('docs/architecture.md'), ['Crate', 'What it does', 'Stands on']):
+        told.append((code_span(row[0]), set(re.findall(r'`(\w+)`', row[2]))))
+    for want, tell in zip(wanted + [None] * len(told), told + [None] * len(wanted)):
+        if want is None and tell is None:
+            break
+        if want != tell:
+            yield f'crates.txt has {want}, and docs/architecture.md {tell}'
+
+
+def faults(program):
+    yield from table_faults(program, 'docs/manual.md')
+    for name in ('README.md', 'docs/manual.md'):
+        yield from command_faults(program, name)
+    for name in sorted(os.listdir(os.path.join(TOP, 'examples'))):
+        if name.endswith('.lisp'):
+            yield from example_faults(program, 'examples/' + name)
+    yield from crate_faults()
+
+
+def main(program):
+    found = list(faults(os.path.abspath(program)))
+    print('\n'.join(found) or 'documents: as the program prints')
+    return 1 if found else 0
+
+
+if __name__ == '__main__':
+    if len(sys.argv) != 2:
+        sys.exit(__doc__)
+    sys.exit(main(sys.argv[1]))

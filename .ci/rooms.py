@@ -1,0 +1,65 @@
+#!/usr/bin/env python3
+"""Checks that what must be believed stands apart from what describes machines.
+
+    .ci/rooms.py
+
+Definitions in specs/steps/ describe how a function computes. No definition outside specs/steps/ may import one of
+them, and no contract of a public function may name one. Printed is each place that does.
+"""
+import glob
+import os
+import re
+import sys
+
+TOP = os.path.dirname(os.path.dirname(os.path.abspath(__file__)))
+IMPORT = re.compile(r'use (Rattle\.\w+\.specs\.steps[\w.]*)(?:\.\{([^}]*)\}| as (\w+))')
+
+
+def imported(text):
+    """The names that a file has from specs/steps/."""
+    names = set()
+    for _, listed, alias in IMPORT.findall(text):
+        if alias:
+            names.add(alias)
+        for name in listed.split(','):
+            if name.strip():
+                names.add(name.split(' as ')[-1].strip())
+    return names
+
+
+def definition_faults(name, text):
+    if '/steps/' not in name and IMPORT.search(text):
+        yield f'{name}: imports from specs/steps/'
+
+
+def public_contracts(text):
+    """Each public function's name, and what stands between it and its body."""
+    for match in re.finditer(r'(?m)^( *)pub (?:const )?fn (\w+)', text):
+        rest = text[match.end():]
+        body = re.search(r'(?m)^' + match.group(1) + r'\{|\{$|;$', rest)
+        yield match.group(2), rest[:body.start()] if body else rest
+
+
+def contract_faults(name, text):
+    names = imported(text)
+    if not names:
+        return
+    for function, contract in public_contracts(text):
+        for word in sorted(names):
+            if re.search(r'(?<![\w.])' + re.escape(word) + r'(?!\w)', contract):
+                yield f'{name}: the contract of the public function {function} names {word} of specs/steps/'
+
+
+def faults():
+    for path in sorted(glob.glob(os.path.join(TOP, 'crates/*/specs/**/*.antt'), recursive=True)):
+        with open(path, encoding='utf-8') as file:
+            yield from definition_faults(os.path.relpath(path, TOP), file.read())
+    for path in sorted(glob.glob(os.path.join(TOP, 'crates/*/src/**/*.rt'), recursive=True)):
+        with open(path, encoding='utf-8') as file:
+            yield from contract_faults(os.path.relpath(path, TOP), file.read())
+
+
+if __name__ == '__main__':
+    found = list(faults())
+    print('\n'.join(found) or 'rooms: no public contract rests on specs/steps/')
+    sys.exit(1 if found else 0)
