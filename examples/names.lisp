@@ -1,5 +1,4 @@
 ;; Built-in names, members, and what is refused. Behind each query stands what it is answered by.
-; Between 0 and 1 there is no integer.
 (subtypep '(rational (0) (1)) 'ratio)                             ; => T
 (subtypep '(unsigned-byte 64) '(integer 0 18446744073709551615))  ; => T
 (subtypep '(and real (not rational)) 'float)                      ; => T
