@@ -5,9 +5,10 @@
 
 Checked are: the tables of docs/manual.md with the columns Text and Line; each command in an indented block of
 README.md and docs/manual.md that a block of output follows; the comments `; => ..` behind the queries of
-examples/*.lisp; and that docs/architecture.md has the crates of crates.txt, in that order, each with the libraries
-that it stands on.
+examples/*.lisp; that docs/architecture.md has the crates of crates.txt, in that order, each with the libraries
+that it stands on; and that each must-fail edit that README.md names is there.
 """
+import glob
 import os
 import re
 import subprocess
@@ -108,6 +109,14 @@ def crate_faults():
             yield f'crates.txt has {want}, and docs/architecture.md {tell}'
 
 
+def edit_faults():
+    there = {os.path.basename(path)[:-len('.edit')] for path in glob.glob(os.path.join(TOP, 'crates/*/must-fail/*.edit'))}
+    for row in rows(read('README.md'), ['Contract', 'What it says', 'Edits']):
+        for name in re.findall(r'`(\w+)`', row[2]):
+            if name not in there:
+                yield f'README.md names the edit {name}, which is not there'
+
+
 def faults(program):
     yield from table_faults(program, 'docs/manual.md')
     for name in ('README.md', 'docs/manual.md'):
@@ -116,6 +125,7 @@ def faults(program):
         if name.endswith('.lisp'):
             yield from example_faults(program, 'examples/' + name)
     yield from crate_faults()
+    yield from edit_faults()
 
 
 def main(program):
