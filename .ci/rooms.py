@@ -32,19 +32,28 @@ def definition_faults(name, text):
         yield f'{name}: imports from specs/steps/'
 
 
-def public_contracts(text):
+def is_private_method(text, at, public_types):
+    """Whether the function at this place is a method of a type that the crate keeps to itself."""
+    before = re.findall(r'(?m)^(impl\b.*|\})$', text[:at])
+    block = re.match(r'impl(?:<.*?>)? (?:.* for )?(\w+)', before[-1]) if before else None
+    return bool(block) and block.group(1) not in public_types
+
+
+def public_contracts(text, public_types):
     """Each public function's name, and what stands between it and its body."""
     for match in re.finditer(r'(?m)^( *)pub (?:const )?fn (\w+)', text):
+        if is_private_method(text, match.start(), public_types):
+            continue
         rest = text[match.end():]
         body = re.search(r'(?m)^' + match.group(1) + r'\{|\{$|;$', rest)
         yield match.group(2), rest[:body.start()] if body else rest
 
 
-def contract_faults(name, text):
+def contract_faults(name, text, public_types):
     names = imported(text)
     if not names:
         return
-    for function, contract in public_contracts(text):
+    for function, contract in public_contracts(text, public_types):
         for word in sorted(names):
             if re.search(r'(?<![\w.])' + re.escape(word) + r'(?!\w)', contract):
                 yield f'{name}: the contract of the public function {function} names {word} of specs/steps/'
@@ -54,9 +63,13 @@ def faults():
     for path in sorted(glob.glob(os.path.join(TOP, 'crates/*/specs/**/*.antt'), recursive=True)):
         with open(path, encoding='utf-8') as file:
             yield from definition_faults(os.path.relpath(path, TOP), file.read())
+    sources = {}
     for path in sorted(glob.glob(os.path.join(TOP, 'crates/*/src/**/*.rt'), recursive=True)):
         with open(path, encoding='utf-8') as file:
-            yield from contract_faults(os.path.relpath(path, TOP), file.read())
+            sources[os.path.relpath(path, TOP)] = file.read()
+    public_types = set(re.findall(r'(?m)^pub (?:struct|enum|trait) (\w+)', '\n'.join(sources.values())))
+    for name, text in sources.items():
+        yield from contract_faults(name, text, public_types)
 
 
 if __name__ == '__main__':
