@@ -32,28 +32,37 @@ def definition_faults(name, text):
         yield f'{name}: imports from specs/steps/'
 
 
-def is_private_method(text, at, public_types):
-    """Whether the function at this place is a method of a type that the crate keeps to itself."""
+def exported(root):
+    """The names that a crate's root file gives to other crates; of a program, its top call."""
+    if os.path.basename(root) == 'main.rt':
+        return {'run'}
+    with open(root, encoding='utf-8') as file:
+        uses = re.findall(r'(?ms)^pub use ([^;]*);', file.read())
+    return set(re.findall(r'\w+', ' '.join(uses)))
+
+
+def owner(text, at):
+    """The type of whose methods the function at this place is one, if it is a method."""
     before = re.findall(r'(?m)^(impl\b.*|\})$', text[:at])
     block = re.match(r'impl(?:<.*?>)? (?:.* for )?(\w+)', before[-1]) if before else None
-    return bool(block) and block.group(1) not in public_types
+    return block.group(1) if block else None
 
 
-def public_contracts(text, public_types):
-    """Each public function's name, and what stands between it and its body."""
+def public_contracts(text, names):
+    """Each function that other crates can call, and what stands between it and its body."""
     for match in re.finditer(r'(?m)^( *)pub (?:const )?fn (\w+)', text):
-        if is_private_method(text, match.start(), public_types):
+        if (owner(text, match.start()) or match.group(2)) not in names:
             continue
         rest = text[match.end():]
         body = re.search(r'(?m)^' + match.group(1) + r'\{|\{$|;$', rest)
         yield match.group(2), rest[:body.start()] if body else rest
 
 
-def contract_faults(name, text, public_types):
+def contract_faults(name, text, public):
     names = imported(text)
     if not names:
         return
-    for function, contract in public_contracts(text, public_types):
+    for function, contract in public_contracts(text, public):
         for word in sorted(names):
             if re.search(r'(?<![\w.])' + re.escape(word) + r'(?!\w)', contract):
                 yield f'{name}: the contract of the public function {function} names {word} of specs/steps/'
@@ -63,13 +72,12 @@ def faults():
     for path in sorted(glob.glob(os.path.join(TOP, 'crates/*/specs/**/*.antt'), recursive=True)):
         with open(path, encoding='utf-8') as file:
             yield from definition_faults(os.path.relpath(path, TOP), file.read())
-    sources = {}
-    for path in sorted(glob.glob(os.path.join(TOP, 'crates/*/src/**/*.rt'), recursive=True)):
-        with open(path, encoding='utf-8') as file:
-            sources[os.path.relpath(path, TOP)] = file.read()
-    public_types = set(re.findall(r'(?m)^pub (?:struct|enum|trait) (\w+)', '\n'.join(sources.values())))
-    for name, text in sources.items():
-        yield from contract_faults(name, text, public_types)
+    for crate in sorted(glob.glob(os.path.join(TOP, 'crates/*/src'))):
+        root = os.path.join(crate, 'lib.rt')
+        public = exported(root if os.path.exists(root) else os.path.join(crate, 'main.rt'))
+        for path in sorted(glob.glob(os.path.join(crate, '**/*.rt'), recursive=True)):
+            with open(path, encoding='utf-8') as file:
+                yield from contract_faults(os.path.relpath(path, TOP), file.read(), public)
 
 
 if __name__ == '__main__':
