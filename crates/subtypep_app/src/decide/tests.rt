@@ -7,7 +7,7 @@ ghost use Rattle.ls_spec.specs.SelfContained.{IsSelfContained};
 ghost use Rattle.subtypep_app.specs.steps.Built.{AreBuilt, IsDecidable};
 
 use super::{decide, some_array};
-use crate::answer::Answer;
+use ls_decide::Answer;
 use ls_object::{Boxed, Items, Kind, Object, Rat, Shape, Symbol, Text};
 use ls_spec::{Bound, CharClass, Point, RangeKind, Spec, SymClass, belongs};
 use std::alloc::{AllocError, Global};
