@@ -1,10 +1,18 @@
 #!/usr/bin/env python3
 """Writes a text of queries to standard output, the same for the same arguments.
 
-    bench/queries.py ranges N   N queries of two integer ranges
-    bench/queries.py mixed N    N queries of AND, OR, NOT, EQL and INTEGER, nested up to three deep
-    bench/queries.py eql N      one query: an OR of N EQLs against the same in reverse order
+    bench/queries.py ranges N     N queries of two integer ranges
+    bench/queries.py mixed N      N queries of AND, OR, NOT, EQL and INTEGER, nested up to three deep
+    bench/queries.py eql N        one query: an OR of N EQLs of integers against the same in reverse order
+    bench/queries.py symbols N    the same of symbols
+    bench/queries.py disjoint N   the same of N disjoint ranges of integers
+    bench/queries.py member N     a MEMBER of N integers in T, in its range, and the range in it
+    bench/queries.py conses N     2 N queries of conses of a range and a list
+    bench/queries.py nots N       (not (cons integer (not (cons ..)))), N deep, against itself
+    bench/queries.py overlaps N   conses N deep, at each level an OR of two that overlap, against conses of the whole
+    bench/queries.py places N     N + 1 places with N numbers, against "two places alike"
 """
+import itertools
 import random
 import sys
 
@@ -27,8 +35,56 @@ def specifier(rng, depth):
     return '(' + ' '.join([head] + [specifier(rng, depth - 1) for _ in range(count)]) + ')'
 
 
-def eqls(numbers):
-    return '(or ' + ' '.join(f'(eql {n})' for n in numbers) + ')'
+def ask(first, second):
+    print(f"(subtypep '{first} '{second})")
+
+
+def joined(head, parts):
+    return f'({head} ' + ' '.join(parts) + ')'
+
+
+def against_reverse(parts):
+    ask(joined('or', parts), joined('or', parts[::-1]))
+
+
+def member(count):
+    numbers = joined('member', map(str, range(count)))
+    ask(numbers, 't')
+    ask(numbers, f'(integer 0 {count - 1})')
+    ask(f'(integer 0 {count - 1})', numbers)
+
+
+def conses(count):
+    def tagged(i):
+        return f'(cons (integer 0 {i}) (or null (cons (eql {i}) t)))'
+    for i in range(count):
+        ask(tagged(i), '(cons integer list)')
+        ask(tagged(i), tagged((7 * i + 3) % count))
+
+
+def nots(count):
+    inner = 'symbol'
+    for _ in range(count):
+        inner = f'(not (cons integer {inner}))'
+    ask(inner, inner)
+
+
+def overlaps(count):
+    inner, whole = 'null', 'null'
+    for level in range(count):
+        inner = f'(or (cons (integer 0 {level + 5}) {inner}) (cons (integer 3 {level + 9}) {inner}))'
+        whole = f'(cons (integer 0 {level + 9}) {whole})'
+    ask(inner, whole)
+
+
+def places(count):
+    def listed(parts):
+        return 'null' if not parts else f'(cons {parts[0]} {listed(parts[1:])})'
+    alike = []
+    for one, other in itertools.combinations(range(count + 1), 2):
+        for number in range(1, count + 1):
+            alike.append(listed([f'(eql {number})' if at in (one, other) else 't' for at in range(count + 1)]))
+    ask(listed([f'(integer 1 {count})'] * (count + 1)), joined('or', alike))
 
 
 def main(kind, count):
@@ -38,9 +94,15 @@ def main(kind, count):
             print(integer_range(rng))
     elif kind == 'mixed':
         for _ in range(count):
-            print(f"(subtypep '{specifier(rng, 3)} '{specifier(rng, 3)})")
+            ask(specifier(rng, 3), specifier(rng, 3))
     elif kind == 'eql':
-        print(f"(subtypep '{eqls(range(count))} '{eqls(range(count - 1, -1, -1))})")
+        against_reverse([f'(eql {n})' for n in range(count)])
+    elif kind == 'symbols':
+        against_reverse([f'(eql s{n})' for n in range(count)])
+    elif kind == 'disjoint':
+        against_reverse([f'(integer {10 * n} {10 * n + 4})' for n in range(count)])
+    elif kind in ('member', 'conses', 'nots', 'overlaps', 'places'):
+        {'member': member, 'conses': conses, 'nots': nots, 'overlaps': overlaps, 'places': places}[kind](count)
     else:
         sys.exit(__doc__)
 
