@@ -39,7 +39,8 @@ map_tabulate n f =
     is_tabulate (map not (tabulate n f)) n (λ i. not (f i)) (length-map (tabulate n f) not ∙ length-tabulate n f) (λ i l.
     get_or-map not (tabulate n f) i false false (omega (arith, length-tabulate n f)) ∙ ap not (at-tabulate n f i l))
 
-length-zip_with : (op : Bool → Bool → Bool) (xs ys : List Bool) → length xs ≡ length ys → length (zip_with op xs ys) ≡ length xs
+-- joined lists are as long
+pub length-zip_with : (op : Bool → Bool → Bool) (xs ys : List Bool) → length xs ≡ length ys → length (zip_with op xs ys) ≡ length xs
 length-zip_with op [] ys e = refl
 length-zip_with op (x ∷ xs) [] e = absurd (omega arith)
 length-zip_with op (x ∷ xs) (y ∷ ys) e = ap suc (length-zip_with op xs ys (omega arith))

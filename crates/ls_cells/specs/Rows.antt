@@ -1,5 +1,5 @@
 -- Rows: truth values, and the object that is made to have them.
-use Rattle.std.specs.Prelude.{◌≡◌, Bool, List, [], map, All}
+use Rattle.std.specs.Prelude.{ℕ, ◌≡◌, Bool, List, [], map, length, All, AllPairs}
 use Rattle.std.specs.Bool.{beq}
 use Rattle.std.specs.Cmp.Lexicographic.{pointwise}
 use Rattle.indexmap.specs.IndexSet.{IndexSet, IsUnique}
@@ -16,6 +16,14 @@ origin_object (Pair' p car q cdr) = node [] (pair (origin_object car) (origin_ob
 -- the truth values of each row
 abbrev pub signs_of : List Row → List (List Bool)
 signs_of rows = map (λ r. r.signs) rows
+
+-- each row has n truth values
+abbrev pub AreLong : ℕ → List Row → Type 0
+AreLong n rows = All (λ r. length r.signs ≡ n) rows
+
+-- no two rows have the same truth values
+abbrev pub AreDifferent : List Row → Type 0
+AreDifferent rows = AllPairs (λ x y. ¬ (x ≡ y)) (signs_of rows)
 
 -- the keys are the truth values of the rows, in order, each once; and no row's object has marks
 pub record Kept {S : Type 0} (rows : List Row) (keys : IndexSet (List Bool) S) : Type 0 where

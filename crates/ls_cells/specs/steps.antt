@@ -1,3 +1,7 @@
 -- How the functions of the crate go about it, for the contracts of private functions alone. No public contract
 -- rests on these definitions.
 pub mod Words
+pub mod Classes
+pub mod Halves
+pub mod Pairing
+pub mod Filling

@@ -84,7 +84,8 @@ fn evaluate_all(
     count: usize,
 ) -> Result<Signs, AllocError>
     requires { All (λ c. length c ≡ count) columns.now }
-    ensures { IfOk result (λ out. out ≡ tabulate count (λ j. list_all (λ p. holds_at p (row_at columns.now j)) parts.now)) }
+    ensures { IfOk result
+        (λ out. out ≡ tabulate count (λ j. list_all (λ p. holds_at p (row_at columns.now j)) parts.now)) }
 {
     let mut out = Signs::interval(alloc, count, 0, count)?;
     for part in parts {
@@ -103,7 +104,8 @@ fn evaluate_any(
     count: usize,
 ) -> Result<Signs, AllocError>
     requires { All (λ c. length c ≡ count) columns.now }
-    ensures { IfOk result (λ out. out ≡ tabulate count (λ j. list_any (λ p. holds_at p (row_at columns.now j)) parts.now)) }
+    ensures { IfOk result
+        (λ out. out ≡ tabulate count (λ j. list_any (λ p. holds_at p (row_at columns.now j)) parts.now)) }
 {
     let mut out = Signs::interval(alloc, count, 0, 0)?;
     for part in parts {

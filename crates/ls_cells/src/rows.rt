@@ -1,7 +1,7 @@
 ghost use Rattle.std.specs.Prelude.{◌≡◌, ◌<◌, ◌+◌, ◌++◌, [], ◌∷◌, length, Contains, MatchOption, MatchBool, IfOk, OnErr, IfSome, slice_get, Some, if◌then◌else◌};
 ghost use Rattle.ls_object.specs.Meaning.{lisp_object};
 ghost use Rattle.ls_object.specs.Universe.{IsPlain};
-ghost use Rattle.ls_cells.specs.Rows.{signs_of, origin_object};
+ghost use Rattle.ls_cells.specs.Rows.{signs_of, origin_object, AreDifferent};
 
 use crate::origin::Origin;
 use crate::signs::Signs;
@@ -56,9 +56,10 @@ impl Rows {
         }
     }
 
-    /// How many rows there are.
+    /// How many rows there are. No two have the same truth values.
     pub fn len(&self) -> usize
-        ensures { result ≡ length self.now }
+        ensures len { result ≡ length self.now }
+        ensures different { AreDifferent self.now }
     {
         self.rows.len()
     }
@@ -108,7 +109,8 @@ impl Rows {
     /// An error comes for want of memory.
     pub fn object(&self, i: usize) -> Result<Object, AllocError>
         requires { i < length self.now }
-        ensures object { IfOk result (λ o. IfSome (slice_get self.now i) (λ row. lisp_object o ≡ origin_object row.origin.value)) }
+        ensures object { IfOk result
+            (λ o. IfSome (slice_get self.now i) (λ row. lisp_object o ≡ origin_object row.origin.value)) }
         ensures plain { IfOk result (λ o. IsPlain (lisp_object o)) }
     {
         self.row(i).origin.object(*self.rows.allocator())

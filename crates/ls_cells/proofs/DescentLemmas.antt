@@ -1,0 +1,198 @@
+-- What goes down from a list of specifiers to its atoms, its cars and its cdrs.
+use Rattle.std.proofs.Common.{◌≤◌, List, [], ◌∷◌, arith, All, get_or}
+use Rattle.std.specs.List.{AllByRecursion, flat_map}
+use Rattle.std.proofs.lemmas.List.Elements.{All-from_recursion, recursion_from_All}
+use Rattle.ls_object.specs.Universe.{Structures}
+use Rattle.ls_object.specs.Inclusion.{IsInclusionOrder, under_in}
+use Rattle.ls_object.proofs.UnderLemmas.{Decides-under_in}
+use Rattle.ls_spec.specs.Specifier.{Specifier, all_objects, no_objects, and_of, or_of, not_of, eql_to, range_of, chars_of, symbols_of, kind_of, structure_under, any_structure, array_any, array_of, string_of, cons_of, satisfies, Specifiers, no_more, also}
+use Rattle.ls_spec.specs.Meaning.{specifiers_of}
+use Rattle.ls_spec.specs.Atoms.{leaves, leaves_of_all, atoms_of}
+use Rattle.ls_spec.specs.Limits.{largest_depth}
+use Rattle.ls_spec.specs.Fits.{IsAtom, Fits, HaveKnownNames, HaveSmallNumbers, greatest_depth}
+use Rattle.ls_spec.specs.Truth.{Learnt, IsLearnt, AreLearnt}
+use Rattle.ls_spec.proofs.DistinctLemmas.{all_of_distinct}
+use Rattle.ls_spec.proofs.ListLemmas.{AllByRecursion-append, AllByRecursion-weaker}
+use Rattle.ls_lists.specs.Sides.{car_of, cdr_of, cars_of, cdrs_of}
+use Rattle.ls_points.specs.Classes.{IsFitAtomOf}
+use Rattle.ls_cells.specs.Cells.{IsBuilt, AreBuilt}
+
+-- it holds of each
+abbrev pub AllOf : (Specifier → Type 0) → Specifiers → Type 0
+AllOf P no_more = Unit {0}
+AllOf P (also s ss) = P s × AllOf P ss
+
+-- it goes from a specifier to its parts
+pub record GoesDown (P : Specifier → Type 0) : Type 0 where
+  pub of_and : (ss : Specifiers) → P (and_of ss) → AllOf P ss
+  pub of_or : (ss : Specifiers) → P (or_of ss) → AllOf P ss
+  pub of_not : (s : Specifier) → P (not_of s) → P s
+  pub of_car : (a b : Specifier) → P (cons_of a b) → P a
+  pub of_cdr : (a b : Specifier) → P (cons_of a b) → P b
+
+module _ (P : Specifier → Type 0) (down : GoesDown P) where
+  abbrev pub IsOne : Specifier → Type 0
+  IsOne s = IsAtom s × P s
+
+  mutual
+    leaves_have : (s : Specifier) → P s → AllByRecursion IsOne (leaves s)
+    leaves_have all_objects h = tt
+    leaves_have no_objects h = tt
+    leaves_have (and_of ss) h = leaves_of_all_have ss (down.of_and ss h)
+    leaves_have (or_of ss) h = leaves_of_all_have ss (down.of_or ss h)
+    leaves_have (not_of s) h = leaves_have s (down.of_not s h)
+    leaves_have (eql_to p) h = ((tt, h), tt)
+    leaves_have (range_of k lo hi) h = ((tt, h), tt)
+    leaves_have (chars_of k) h = ((tt, h), tt)
+    leaves_have (symbols_of k) h = ((tt, h), tt)
+    leaves_have (kind_of k) h = ((tt, h), tt)
+    leaves_have (structure_under name) h = ((tt, h), tt)
+    leaves_have any_structure h = ((tt, h), tt)
+    leaves_have (array_any simple dims) h = ((tt, h), tt)
+    leaves_have (array_of e simple dims) h = ((tt, h), tt)
+    leaves_have (string_of simple dim) h = ((tt, h), tt)
+    leaves_have (cons_of a b) h = ((tt, h), tt)
+    leaves_have (satisfies p) h = ((tt, h), tt)
+
+    leaves_of_all_have : (ss : Specifiers) → AllOf P ss → AllByRecursion IsOne (leaves_of_all ss)
+    leaves_of_all_have no_more h = tt
+    leaves_of_all_have (also s ss) h = AllByRecursion-append IsOne (leaves s) (leaves_of_all ss) (leaves_have s h.0) (leaves_of_all_have ss h.1)
+
+  listed : (list : List Specifier) → AllByRecursion P list → AllOf P (specifiers_of list)
+  listed [] h = tt
+  listed (s ∷ list) h = (h.0, listed list h.1)
+
+  -- the atoms of a list
+  pub atoms_have : (list : List Specifier) → AllByRecursion P list → AllByRecursion IsOne (atoms_of list)
+  atoms_have list h = all_of_distinct IsOne (leaves_of_all (specifiers_of list)) (leaves_of_all_have (specifiers_of list) (listed list h))
+
+  car_has : (s : Specifier) → P s → AllByRecursion P (car_of s)
+  car_has (cons_of a b) h = (down.of_car a b h, tt)
+  car_has _ h = tt
+
+  cdr_has : (s : Specifier) → P s → AllByRecursion P (cdr_of s)
+  cdr_has (cons_of a b) h = (down.of_cdr a b h, tt)
+  cdr_has _ h = tt
+
+  parts_have : (part_of : Specifier → List Specifier) → ((s : Specifier) → P s → AllByRecursion P (part_of s)) → (list : List Specifier) → AllByRecursion P list → AllByRecursion P (flat_map part_of list)
+  parts_have part_of f [] h = tt
+  parts_have part_of f (s ∷ list) h = AllByRecursion-append P (part_of s) (flat_map part_of list) (f s h.0) (parts_have part_of f list h.1)
+
+  -- the cars and the cdrs of a list, from its atoms
+  pub cars_have : (list : List Specifier) → AllByRecursion P (atoms_of list) → AllByRecursion P (cars_of list)
+  unfolding cars_of
+  cars_have list h = all_of_distinct P (flat_map car_of (atoms_of list)) (parts_have car_of car_has (atoms_of list) h)
+
+  pub cdrs_have : (list : List Specifier) → AllByRecursion P (atoms_of list) → AllByRecursion P (cdrs_of list)
+  unfolding cdrs_of
+  cdrs_have list h = all_of_distinct P (flat_map cdr_of (atoms_of list)) (parts_have cdr_of cdr_has (atoms_of list) h)
+
+  only : (list : List Specifier) → AllByRecursion IsOne list → AllByRecursion P list
+  only list h = AllByRecursion-weaker IsOne P (λ s k. k.1) list h
+
+  pub atoms_only : (list : List Specifier) → AllByRecursion P list → AllByRecursion P (atoms_of list)
+  atoms_only list h = only (atoms_of list) (atoms_have list h)
+
+-- specifiers that fit
+fits_each : (structures : Structures) (ss : Specifiers) → HaveKnownNames structures ss → HaveSmallNumbers ss → greatest_depth ss ≤ largest_depth → AllOf (Fits structures) ss
+fits_each structures no_more h n d = tt
+fits_each structures (also s ss) h n d = ((h.0, (n.0, omega arith)), fits_each structures ss h.1 n.1 (omega arith))
+
+fits_down : (structures : Structures) → GoesDown (Fits structures)
+fits_down structures = record {
+  of_and = λ ss h. fits_each structures ss h.0 h.1.0 (let d = h.1.1 in omega arith);
+  of_or = λ ss h. fits_each structures ss h.0 h.1.0 (let d = h.1.1 in omega arith);
+  of_not = λ s h. (h.0, (h.1.0, (let d = h.1.1 in omega arith)));
+  of_car = λ a b h. (h.0.0, (h.1.0.0, (let d = h.1.1 in omega arith)));
+  of_cdr = λ a b h. (h.0.1, (h.1.0.1, (let d = h.1.1 in omega arith)));
+}
+
+-- specifiers that are built
+built_each : (ss : Specifiers) → AreBuilt ss → AllOf IsBuilt ss
+built_each no_more h = tt
+built_each (also s ss) h = (h.0, built_each ss h.1)
+
+built_down : GoesDown IsBuilt
+built_down = record { of_and = λ ss h. built_each ss h; of_or = λ ss h. built_each ss h; of_not = λ s h. h; of_car = λ a b h. h.0; of_cdr = λ a b h. h.1 }
+
+-- specifiers of which all is learnt
+learnt_each : (structures : Structures) (learnt : Learnt) (ss : Specifiers) → AreLearnt structures learnt ss → AllOf (IsLearnt structures learnt) ss
+learnt_each structures learnt no_more h = tt
+learnt_each structures learnt (also s ss) h = (h.0, learnt_each structures learnt ss h.1)
+
+learnt_down : (structures : Structures) (learnt : Learnt) → GoesDown (IsLearnt structures learnt)
+learnt_down structures learnt = record {
+  of_and = λ ss h. learnt_each structures learnt ss h;
+  of_or = λ ss h. learnt_each structures learnt ss h;
+  of_not = λ s h. h;
+  of_car = λ a b h. h.0;
+  of_cdr = λ a b h. h.1;
+}
+
+-- the atoms of a list that fits are atoms that fit
+pub fit_atoms : (structures : Structures) (list : List Specifier) → All (Fits structures) list → AllByRecursion (IsFitAtomOf structures) (atoms_of list)
+fit_atoms structures list h = atoms_have (Fits structures) (fits_down structures) list (recursion_from_All (Fits structures) list h)
+
+-- the cars and cdrs of a list that fits fit
+pub fit_cars : (structures : Structures) (list : List Specifier) → All (Fits structures) list → All (Fits structures) (cars_of list)
+fit_cars structures list h =
+    let P = Fits structures in
+    All-from_recursion P (cars_of list) (cars_have P (fits_down structures) list (atoms_only P (fits_down structures) list (recursion_from_All P list h)))
+
+pub fit_cdrs : (structures : Structures) (list : List Specifier) → All (Fits structures) list → All (Fits structures) (cdrs_of list)
+fit_cdrs structures list h =
+    let P = Fits structures in
+    All-from_recursion P (cdrs_of list) (cdrs_have P (fits_down structures) list (atoms_only P (fits_down structures) list (recursion_from_All P list h)))
+
+-- and so of lists that are built
+pub built_atoms : (list : List Specifier) → All IsBuilt list → All IsBuilt (atoms_of list)
+built_atoms list h = All-from_recursion IsBuilt (atoms_of list) (atoms_only IsBuilt built_down list (recursion_from_All IsBuilt list h))
+
+pub built_cars : (list : List Specifier) → All IsBuilt list → All IsBuilt (cars_of list)
+built_cars list h = All-from_recursion IsBuilt (cars_of list) (cars_have IsBuilt built_down list (recursion_from_All IsBuilt (atoms_of list) (built_atoms list h)))
+
+pub built_cdrs : (list : List Specifier) → All IsBuilt list → All IsBuilt (cdrs_of list)
+built_cdrs list h = All-from_recursion IsBuilt (cdrs_of list) (cdrs_have IsBuilt built_down list (recursion_from_All IsBuilt (atoms_of list) (built_atoms list h)))
+
+-- where all is learnt of the atoms of a list, so it is of those of its cars and of its cdrs
+pub learnt_cars : (structures : Structures) (learnt : Learnt) (list : List Specifier) → All (IsLearnt structures learnt) (atoms_of list) → All (IsLearnt structures learnt) (atoms_of (cars_of list))
+learnt_cars structures learnt list h =
+    let P = IsLearnt structures learnt in let d = learnt_down structures learnt in
+    All-from_recursion P (atoms_of (cars_of list)) (atoms_only P d (cars_of list) (cars_have P d list (recursion_from_All P (atoms_of list) h)))
+
+pub learnt_cdrs : (structures : Structures) (learnt : Learnt) (list : List Specifier) → All (IsLearnt structures learnt) (atoms_of list) → All (IsLearnt structures learnt) (atoms_of (cdrs_of list))
+learnt_cdrs structures learnt list h =
+    let P = IsLearnt structures learnt in let d = learnt_down structures learnt in
+    All-from_recursion P (atoms_of (cdrs_of list)) (atoms_only P d (cdrs_of list) (cdrs_have P d list (recursion_from_All P (atoms_of list) h)))
+
+-- what is known of structure names alone
+abbrev pub names_learnt : Structures → Learnt
+names_learnt structures = record { code_of = λ e. 0; under = under_in structures }
+
+mutual
+  -- it is all that has to be known of specifiers that are built
+  learnt_built : (structures : Structures) (s : Specifier) → IsInclusionOrder structures → IsBuilt s → IsLearnt structures (names_learnt structures) s
+  learnt_built structures (and_of ss) o h = learnt_all_built structures ss o h
+  learnt_built structures (or_of ss) o h = learnt_all_built structures ss o h
+  learnt_built structures (not_of s) o h = learnt_built structures s o h
+  learnt_built structures (cons_of a b) o h = (learnt_built structures a o h.0, learnt_built structures b o h.1)
+  learnt_built structures (array_of e simple dims) o h = absurd h
+  learnt_built structures (structure_under y) o h = λ x. Decides-under_in structures x y o
+  learnt_built structures all_objects o h = tt
+  learnt_built structures no_objects o h = tt
+  learnt_built structures (eql_to p) o h = tt
+  learnt_built structures (range_of k lo hi) o h = tt
+  learnt_built structures (chars_of k) o h = tt
+  learnt_built structures (symbols_of k) o h = tt
+  learnt_built structures (kind_of k) o h = tt
+  learnt_built structures any_structure o h = tt
+  learnt_built structures (array_any simple dims) o h = tt
+  learnt_built structures (string_of simple dim) o h = tt
+  learnt_built structures (satisfies p) o h = tt
+
+  learnt_all_built : (structures : Structures) (ss : Specifiers) → IsInclusionOrder structures → AreBuilt ss → AreLearnt structures (names_learnt structures) ss
+  learnt_all_built structures no_more o h = tt
+  learnt_all_built structures (also s ss) o h = (learnt_built structures s o h.0, learnt_all_built structures ss o h.1)
+
+pub names_are_all : (structures : Structures) (list : List Specifier) → IsInclusionOrder structures → All IsBuilt list → All (IsLearnt structures (names_learnt structures)) list
+names_are_all structures list o h k d lt = learnt_built structures (get_or list k d) o (h k d lt)

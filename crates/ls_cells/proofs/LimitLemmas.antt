@@ -1,0 +1,56 @@
+-- The objects that stand for the classes are among the candidates.
+use Rattle.std.proofs.Common.{ℕ, zero, suc, ◌+◌, ◌*◌, ◌≤◌, arith, List, [], ◌∷◌, map, Bool, if◌then◌else◌}
+use Rattle.std.specs.List.{count_by, list_any, flat_map}
+use Rattle.std.proofs.lemmas.List.Sums.{sum_by-cons}
+use Rattle.ls_spec.specs.declared.spec.Spec.{Spec}
+use Rattle.ls_spec.specs.declared.spec.Point.TheVariants as point
+use Rattle.ls_spec.specs.Specifier.{Specifier, all_objects, no_objects, and_of, or_of, not_of, eql_to, range_of, chars_of, symbols_of, kind_of, structure_under, any_structure, array_any, array_of, string_of, cons_of, satisfies}
+use Rattle.ls_spec.specs.Meaning.{specifier}
+use Rattle.ls_points.specs.Classes as class
+use Rattle.ls_points.specs.Members.{number_limit, character_limit, symbol_limit, kind_limit, structure_limit}
+use Rattle.ls_lists.specs.Candidates.{is_range, is_single, is_structure, is_kind, element_codes, shapes, pattern_of, arrays, candidates_of_atoms}
+
+-- whether an atom passes a test, as a number
+abbrev one : Bool → ℕ
+one b = if b then 1 else 0
+
+-- one atom
+atom_counts : (s : Specifier) → 6 * one (class.is_range s) + 3 * one (class.is_number_point s) + one (class.is_character_point s) + one (class.is_symbol_point s) + one (class.is_kind s) + one (class.is_structure_atom s)
+    ≤ 6 * one (is_range s) + 3 * one (is_single s) + one (is_structure s) + one (is_kind s)
+atom_counts (eql_to (point.Number r)) = omega arith
+atom_counts (eql_to (point.Char c)) = omega arith
+atom_counts (eql_to (point.Sym s)) = omega arith
+atom_counts (range_of k lo hi) = omega arith
+atom_counts (kind_of k) = omega arith
+atom_counts (structure_under name) = omega arith
+atom_counts any_structure = omega arith
+atom_counts _ = omega arith
+
+-- a list of them
+counts : (l : List Specifier)
+    → 6 * class.count_atoms class.is_range l + 3 * class.count_atoms class.is_number_point l + class.count_atoms class.is_character_point l + class.count_atoms class.is_symbol_point l + class.count_atoms class.is_kind l + class.count_atoms class.is_structure_atom l
+    ≤ 6 * count_by is_range l + 3 * count_by is_single l + count_by is_structure l + count_by is_kind l
+counts [] = omega arith
+counts (s ∷ l) =
+    let e = counts l in
+    let f = atom_counts s in
+    let a = sum_by-cons (λ x. one (is_range x)) s l in
+    let b = sum_by-cons (λ x. one (is_single x)) s l in
+    let c = sum_by-cons (λ x. one (is_structure x)) s l in
+    let d = sum_by-cons (λ x. one (is_kind x)) s l in
+    omega arith
+
+-- a product of numbers that are not 0
+some_product : (a b : ℕ) → 1 ≤ 2 * (a + 1) * (1 + b)
+some_product a zero = omega arith
+some_product a (suc b) = grind arith
+
+-- an array is among them
+some_array : (l : List Specifier) → 1 ≤ arrays l
+unfolding arrays
+some_array l = some_product (element_codes l) (shapes (flat_map pattern_of l))
+
+-- all classes together, and one array
+pub limits_are : (atoms : List Spec) → number_limit atoms + character_limit atoms + symbol_limit atoms + kind_limit atoms + structure_limit atoms + 1 ≤ candidates_of_atoms (map specifier atoms)
+unfolding candidates_of_atoms
+limits_are atoms = let e = counts (map specifier atoms) in let f = some_array (map specifier atoms) in omega arith

@@ -1,0 +1,58 @@
+-- The rows of a list of atoms: which truth values an object can have in them, each with an object that has them.
+use Rattle.std.specs.Prelude.{◌≡◌, Bool, List, map, All, Contains}
+use Rattle.ls_object.specs.Universe.{LispObject, node, pair, Structures, IsObject, plain}
+use Rattle.ls_spec.specs.Specifier.{Specifier, and_of, or_of, not_of, array_any, array_of, string_of, cons_of, satisfies, Specifiers, no_more, also}
+use Rattle.ls_spec.specs.Truth.{Learnt, holds}
+use Rattle.ls_cells.specs.declared.rows.Row.{Row}
+use Rattle.ls_cells.specs.Rows.{origin_object, signs_of}
+
+-- whether an object belongs to each of the atoms
+abbrev pub signs_at : Learnt → List Specifier → LispObject → List Bool
+signs_at learnt atoms o = map (λ s. holds learnt s o) atoms
+
+-- some object has the row's truth values: its plain form is what the row is made of
+pub record HasObject (structures : Structures) (learnt : Learnt) (atoms : List Specifier) (row : Row) : Type 0 where
+  pub object : LispObject
+  pub is_object : IsObject structures object
+  pub plain_form : plain object ≡ origin_object row.origin.value
+  pub signs : row.signs ≡ signs_at learnt atoms object
+
+-- each row has an object, and each object has its row
+pub record AreRowsOf (structures : Structures) (learnt : Learnt) (atoms : List Specifier) (rows : List Row)
+    : Type 0 where
+  pub each : All (HasObject structures learnt atoms) rows
+  pub all : (o : LispObject) → IsObject structures o → Contains (signs_of rows) (signs_at learnt atoms o)
+
+-- rows were added for a class: none was lost, each has an object if the old ones have, and each object of the class has
+-- its row
+pub record AddsRows (structures : Structures) (learnt : Learnt) (atoms : List Specifier)
+    (IsOfClass : LispObject → Type 0) (old new : List Row) : Type 0 where
+  pub kept : (signs : List Bool) → Contains (signs_of old) signs → Contains (signs_of new) signs
+  pub each : All (HasObject structures learnt atoms) old → All (HasObject structures learnt atoms) new
+  pub all : (o : LispObject) → IsObject structures o → IsOfClass o → Contains (signs_of new) (signs_at learnt atoms o)
+
+-- a cons, with any marks; and any other object
+abbrev pub IsCons : LispObject → Type 0
+IsCons (node marks (pair car cdr)) = Unit {0}
+IsCons _ = ⊥
+
+abbrev pub IsNoCons : LispObject → Type 0
+IsNoCons (node marks (pair car cdr)) = ⊥
+IsNoCons _ = Unit {0}
+
+-- without arrays, strings and predicates
+abbrev mutual
+  pub IsBuilt : Specifier → Type 0
+  IsBuilt (and_of ss) = AreBuilt ss
+  IsBuilt (or_of ss) = AreBuilt ss
+  IsBuilt (not_of s) = IsBuilt s
+  IsBuilt (array_any simple dims) = ⊥
+  IsBuilt (array_of e simple dims) = ⊥
+  IsBuilt (string_of simple dim) = ⊥
+  IsBuilt (cons_of a b) = IsBuilt a × IsBuilt b
+  IsBuilt (satisfies p) = ⊥
+  IsBuilt _ = Unit {0}
+
+  pub AreBuilt : Specifiers → Type 0
+  AreBuilt no_more = Unit {0}
+  AreBuilt (also s ss) = IsBuilt s × AreBuilt ss

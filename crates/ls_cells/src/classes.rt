@@ -1,0 +1,167 @@
+// The rows of all objects but conses.
+
+ghost use Rattle.std.specs.Prelude.{ℕ, ◌≡◌, ◌≤◌, ◌+◌, ◌<◌, ◌↔◌, [], true, map, length, All, IfOk, OnOk};
+ghost use Rattle.std.specs.List.{AllByRecursion};
+ghost use Rattle.ls_object.specs.Universe.{LispObject, node, array, Structures, IsObject, IsPlain, plain};
+ghost use Rattle.ls_object.specs.declared.table.TheConstants.{T_PLACE};
+ghost use Rattle.ls_object.specs.Meaning.{lisp_object};
+ghost use Rattle.ls_spec.specs.declared.spec.Spec.{Spec};
+ghost use Rattle.ls_spec.specs.Meaning.{specifier};
+ghost use Rattle.ls_spec.specs.Membership.{Belongs};
+ghost use Rattle.ls_spec.specs.Fits.{IsAtom};
+ghost use Rattle.ls_spec.specs.Truth.{Learnt, IsLearnt};
+ghost use Rattle.ls_points.specs.Members as members;
+ghost use Rattle.ls_lists.specs.Candidates.{candidates_of_atoms};
+ghost use Rattle.ls_cells.specs.Cells.{signs_at, AddsRows, IsNoCons, IsBuilt};
+ghost use Rattle.ls_cells.specs.Rows.{AreLong};
+ghost use Rattle.ls_cells.specs.steps.Classes.{IsItself, IsArray};
+
+use crate::origin::Origin;
+use crate::rows::{Row, Rows};
+use crate::signs::Signs;
+use ls_memo::Steps;
+use ls_object::{Code, Dims, Items, Object, Shape};
+use ls_points::{CharRegions, NumberRegions, OpaqueRegions, StructRegions, SymbolRegions};
+use ls_spec::{Regions, Spec};
+use std::alloc::{AllocError, Global};
+use std::sync::ledger::Ledger;
+
+/// The truth value of each atom at an object of the class.
+fn signs_of_object<R: Regions<Atom = Spec>>(
+    alloc: Global,
+    regions: &R,
+    atoms: &[Spec],
+    object: &Object,
+) -> Result<Signs, AllocError>
+    requires class { R.IsOfClass regions.now (lisp_object object.now) }
+    requires meaning { (structures : Structures) (a : Spec) (o : LispObject)
+        → R.IsIn structures a o ↔ Belongs structures (specifier a) o }
+    ensures long { IfOk result (λ signs. length signs ≡ length atoms.now) }
+    ensures signs { IfOk result (λ signs. (structures : Structures) (learnt : Learnt) → R.IsOver regions.now structures
+        → All (IsLearnt structures learnt) (map specifier atoms.now)
+        → signs ≡ signs_at learnt (map specifier atoms.now) (plain (lisp_object object.now))) }
+{
+    let mut signs = Signs::new(alloc);
+    for atom in atoms {
+        signs.push(regions.holds(atom, object))?;
+    }
+    Ok(signs)
+}
+
+/// Adds the row of one object of the class, which has no marks. It makes at most one step.
+fn push_object<R: Regions<Atom = Spec>, L: Ledger>(
+    alloc: Global,
+    regions: &R,
+    atoms: &[Spec],
+    object: Object,
+    rows: &mut Rows,
+    steps: &mut Steps<L>,
+) -> Result<(), AllocError>
+    requires class { R.IsOfClass regions.now (lisp_object object) }
+    requires plain { IsPlain (lisp_object object) }
+    requires meaning { (structures : Structures) (a : Spec) (o : LispObject)
+        → R.IsIn structures a o ↔ Belongs structures (specifier a) o }
+    ensures rises { steps.old ≤ steps.new }
+    ensures most { steps.new ≤ steps.old + 1 }
+    ensures fewer { length rows.new + steps.old ≤ length rows.old + steps.new }
+    ensures long { AreLong (length atoms.now) rows.old → AreLong (length atoms.now) rows.new }
+    ensures rows { OnOk result ((structures : Structures) (learnt : Learnt) → R.IsOver regions.now structures
+        → IsObject structures (lisp_object object)
+        → All (IsLearnt structures learnt) (map specifier atoms.now)
+        → AddsRows structures learnt (map specifier atoms.now) (IsItself (lisp_object object)) rows.old rows.new) }
+{
+    let signs = signs_of_object(alloc, regions, atoms, &object)?;
+    let origin = Origin::of_object(alloc, object)?;
+    rows.add(Row { signs, origin }, steps)?;
+    Ok(())
+}
+
+/// Adds the rows of the objects of a class: one for each of those that stand for it.
+fn push_class<R: Regions<Atom = Spec>, L: Ledger>(
+    alloc: Global,
+    regions: &R,
+    atoms: &Items<Spec>,
+    rows: &mut Rows,
+    steps: &mut Steps<L>,
+) -> Result<(), AllocError>
+    requires fit { AllByRecursion (R.IsFit regions.now) atoms.now }
+    requires built { All IsBuilt (map specifier atoms.now) }
+    requires meaning { (structures : Structures) (a : Spec) (o : LispObject)
+        → R.IsIn structures a o ↔ Belongs structures (specifier a) o }
+    ensures rises { steps.old ≤ steps.new }
+    ensures most { steps.new ≤ steps.old + R.limit atoms.now }
+    ensures fewer { length rows.new + steps.old ≤ length rows.old + steps.new }
+    ensures long { AreLong (length atoms.now) rows.old → AreLong (length atoms.now) rows.new }
+    ensures rows { OnOk result ((structures : Structures) (learnt : Learnt) → R.IsOver regions.now structures
+        → All (IsLearnt structures learnt) (map specifier atoms.now)
+        → AddsRows structures learnt (map specifier atoms.now) (R.IsOfClass regions.now) rows.old rows.new) }
+{
+    let mut reps = regions.reps(alloc, atoms)?;
+    let these = atoms.as_slice();
+    while let Some(object) = reps.pop() {
+        push_object(alloc, regions, these, object, rows, steps)?;
+    }
+    Ok(())
+}
+
+/// The simple array of rank 0 that can hold every object.
+fn some_array(alloc: Global) -> Object
+    ensures { lisp_object result ≡ node [] (array T_PLACE true []) }
+{
+    Object {
+        marks: Items::new(alloc),
+        shape: Shape::Array {
+            elem: Code::ALL,
+            simple: true,
+            dims: Dims::new(alloc),
+        },
+    }
+}
+
+/// Adds the row of the arrays, which are in no atom. It makes at most one step.
+fn push_array<L: Ledger>(
+    alloc: Global,
+    atoms: &Items<Spec>,
+    rows: &mut Rows,
+    steps: &mut Steps<L>,
+) -> Result<(), AllocError>
+    requires atoms { AllByRecursion (λ a. IsAtom (specifier a)) atoms.now }
+    requires built { All IsBuilt (map specifier atoms.now) }
+    ensures rises { steps.old ≤ steps.new }
+    ensures most { steps.new ≤ steps.old + 1 }
+    ensures fewer { length rows.new + steps.old ≤ length rows.old + steps.new }
+    ensures long { AreLong (length atoms.now) rows.old → AreLong (length atoms.now) rows.new }
+    ensures rows { OnOk result ((structures : Structures) (learnt : Learnt)
+        → AddsRows structures learnt (map specifier atoms.now) IsArray rows.old rows.new) }
+{
+    let signs = Signs::interval(alloc, atoms.len(), 0, 0)?;
+    let origin = Origin::of_object(alloc, some_array(alloc))?;
+    rows.add(Row { signs, origin }, steps)?;
+    Ok(())
+}
+
+/// Adds the rows of all objects but conses. An error comes for want of memory; the rows are then some of them.
+pub(crate) fn push_flat<L: Ledger>(
+    alloc: Global,
+    structs: &StructRegions,
+    atoms: &Items<Spec>,
+    rows: &mut Rows,
+    steps: &mut Steps<L>,
+) -> Result<(), AllocError>
+    requires fit { AllByRecursion (members.IsFitIn structs.now) atoms.now }
+    requires built { All IsBuilt (map specifier atoms.now) }
+    ensures rises { steps.old ≤ steps.new }
+    ensures most { steps.new ≤ steps.old + candidates_of_atoms (map specifier atoms.now) }
+    ensures fewer { length rows.new + steps.old ≤ length rows.old + steps.new }
+    ensures long { AreLong (length atoms.now) rows.old → AreLong (length atoms.now) rows.new }
+    ensures rows { OnOk result ((learnt : Learnt) → All (IsLearnt structs.now learnt) (map specifier atoms.now)
+        → AddsRows structs.now learnt (map specifier atoms.now) IsNoCons rows.old rows.new) }
+{
+    push_class(alloc, &NumberRegions, atoms, rows, steps)?;
+    push_class(alloc, &CharRegions, atoms, rows, steps)?;
+    push_class(alloc, &SymbolRegions, atoms, rows, steps)?;
+    push_class(alloc, &OpaqueRegions, atoms, rows, steps)?;
+    push_class(alloc, structs, atoms, rows, steps)?;
+    push_array(alloc, atoms, rows, steps)?;
+    Ok(())
+}

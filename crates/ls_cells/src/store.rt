@@ -1,0 +1,139 @@
+// The store.
+
+ghost use Rattle.std.specs.Prelude.{◌≡◌, ◌≤◌, ◌+◌, ◌-◌, ◌^◌, ◌<◌, [], length, min, All, IsTrue, IfOk, OnOk};
+ghost use Rattle.ls_object.specs.Inclusion.{IsInclusionOrder};
+ghost use Rattle.ls_spec.specs.Meaning.{specifier};
+ghost use Rattle.ls_spec.specs.Fits.{Fits};
+ghost use Rattle.ls_lists.specs.Walks.{among, walk, reached, total, missing, IsClosed};
+ghost use Rattle.ls_intern.specs.Places.{at, specifiers_at, AllBelow, Extends};
+ghost use Rattle.ls_cells.specs.Cells.{IsBuilt};
+ghost use Rattle.ls_cells.specs.Kept.{structures_in, specifiers_in, entries_in, lists, count_rows};
+ghost use Rattle.ls_cells.specs.Kept.{AreCellsOf, Began, Grows};
+
+use crate::cells::Cells;
+use crate::fill::Kept;
+use ls_intern::{Id, Table};
+use ls_memo::Steps;
+use ls_object::Parents;
+use ls_points::StructRegions;
+use ls_spec::Spec;
+use std::alloc::{AllocError, Global};
+use std::marker::Model;
+use std::sync::ledger::Ledger;
+
+/// Specifiers by number, and the cells of lists of them, over the structure types of a file. Contracts see the
+/// structure types, the specifiers, and the lists for which rows are kept, with the rows.
+#[derive(Drop)]
+pub struct Store {
+    alloc: Global,
+    structures: StructRegions,
+    table: Table,
+    kept: Kept,
+}
+
+impl Model for Store {
+    ghost use Rattle.std.specs.Coded.{codes};
+    ghost use Rattle.ls_intern.specs.Codes.{coded_specifier};
+    ghost use Rattle.ls_cells.specs.contracts.rows.Row as row;
+    ghost use Rattle.ls_cells.specs.Kept.{Stored};
+
+    ghost Value = { Stored };
+
+    ghost coded = { Prim.hlevel (codes, coded_specifier, row.the_row.coded) };
+
+    ghost use Rattle.ls_cells.specs.Kept.{entries_of, IsStore};
+
+    ghost view = { λ s. (s.structures, (s.table, entries_of s.table s.kept.memo)) };
+
+    ghost invariant = { λ s. IsStore s.structures s.table s.kept.memo s.kept.rows };
+}
+
+impl Store {
+    /// A store over these structure types, of no specifier and no list.
+    pub fn new(alloc: Global, parents: Parents) -> Store
+        ensures { result ≡ (parents, ([], [])) }
+    {
+        let _order = parents.as_slice();
+        Store {
+            alloc,
+            structures: StructRegions::new(parents),
+            table: Table::new(alloc),
+            kept: Kept::new(alloc),
+        }
+    }
+
+    /// The specifiers. The structure types are in order, and where a list is kept, so are its cars and its cdrs.
+    pub fn table(&self) -> &Table
+        ensures specifiers { result.now ≡ specifiers_in self.now }
+        ensures order { IsInclusionOrder (structures_in self.now) }
+        ensures closed { IsClosed (lists (entries_in self.now)) }
+    {
+        &self.table
+    }
+
+    /// The number of a specifier, which is put in if it isn't there. No number changes and what is kept stays, also
+    /// where memory is refused.
+    pub fn intern(&mut self, spec: &Spec) -> Result<Id, AllocError>
+        ensures structures { structures_in self.new ≡ structures_in self.old }
+        ensures kept { entries_in self.new ≡ entries_in self.old }
+        ensures grows { Extends (specifiers_in self.old) (specifiers_in self.new) }
+        ensures within { IfOk result (λ id. id < length (specifiers_in self.new)) }
+        ensures is { IfOk result (λ id. at (specifiers_in self.new) id ≡ specifier spec.now) }
+    {
+        self.table.add(spec)
+    }
+
+    /// For how many lists rows are kept.
+    pub fn kept(&self) -> usize
+        ensures { result ≡ length (entries_in self.now) }
+    {
+        self.kept.memo.len()
+    }
+
+    /// How many rows are kept, or the greatest u64 where they are more.
+    pub fn rows(&self) -> u64
+        ensures { result ≡ min (count_rows (entries_in self.now)) (2 ^ 64 - 1) }
+    {
+        self.kept.rows
+    }
+
+    /// Makes the rows of a list and of all lists that it reaches by cars and cdrs, each of them once, and none for
+    /// which rows are kept. An error comes for want of memory; those are kept then that were made until then.
+    pub fn fill<L: Ledger>(&mut self, list: &[Id], steps: &mut Steps<L>) -> Result<(), AllocError>
+        requires below { AllBelow (length (specifiers_in self.old)) list.now }
+        requires fit { All (Fits (structures_in self.old)) (specifiers_at (specifiers_in self.old) list.now) }
+        requires built { All IsBuilt (specifiers_at (specifiers_in self.old) list.now) }
+        ensures structures { structures_in self.new ≡ structures_in self.old }
+        ensures specifiers { specifiers_in self.new ≡ specifiers_in self.old }
+        ensures grows { Grows (entries_in self.old) (entries_in self.new) }
+        ensures began { Began (specifiers_at (specifiers_in self.old) list.now)
+            (lists (entries_in self.old)) (lists (entries_in self.new)) steps.old steps.new }
+        ensures rises { steps.old ≤ steps.new }
+        ensures cost { steps.new ≤ steps.old
+            + total (missing (lists (entries_in self.old))
+            (reached (specifiers_at (specifiers_in self.old) list.now))) }
+        ensures rows { count_rows (entries_in self.new) + steps.old ≤ count_rows (entries_in self.old) + steps.new }
+        ensures all { OnOk result (lists (entries_in self.new)
+            ≡ walk (specifiers_at (specifiers_in self.old) list.now) (lists (entries_in self.old))) }
+        ensures kept { OnOk result (0 < length list.now
+            → IsTrue (among (specifiers_at (specifiers_in self.old) list.now) (lists (entries_in self.new)))) }
+    {
+        self.kept
+            .fill(self.alloc, &self.structures, &self.table, list, steps)
+    }
+
+    /// What is kept for a list.
+    pub fn cells(&self, list: &[Id]) -> &Cells
+        requires below { AllBelow (length (specifiers_in self.now)) list.now }
+        requires kept { IsTrue
+            (among (specifiers_at (specifiers_in self.now) list.now) (lists (entries_in self.now))) }
+        ensures { AreCellsOf (structures_in self.now) (specifiers_in self.now)
+            (specifiers_at (specifiers_in self.now) list.now) result.now }
+    {
+        let _distinct = self.table.len();
+        match self.kept.memo.get(list) {
+            Some(cells) => cells,
+            None => unreachable!(),
+        }
+    }
+}
