@@ -5,16 +5,16 @@ use Rattle.std.specs.Prelude.{nat_lt, if◌then◌else◌}
 use Rattle.std.specs.List.{flat_map}
 use Rattle.ls_reader.specs.declared.datum.Span.{Span}
 use Rattle.ls_reader.specs.declared.datum.Datum.{Datum}
-use Rattle.ls_spec.specs.Specifier.{Specifier, not_of}
+use Rattle.ls_spec.specs.Specifier.{Specifier, not_of, cons_of}
 use Rattle.ls_env.specs.Environments.{Environment}
 use Rattle.ls_grammar.specs.declared.refusal.RefusalKind.TheVariants as kind
 use Rattle.ls_grammar.specs.declared.refusal.Refusal.{Refusal}
 use Rattle.ls_grammar.specs.Numbers.{refusal}
-use Rattle.ls_grammar.specs.Levels.{Level, refused, known, object, members, all_of, some_of, none_of}
+use Rattle.ls_grammar.specs.Levels.{Level, refused, known, object, members, all_of, some_of, none_of, pair_of}
 use Rattle.ls_grammar.specs.Saying.{level, weight_of}
 use Rattle.ls_grammar.specs.Denoting.{eql_of, conjunction, disjunction}
-use Rattle.ls_grammar.specs.steps.Running.{Outcome, next, enter, made, with_room, run_all, run_object, run_level, outcome}
-use Rattle.ls_grammar.specs.Visiting.{deepest, Visit, line_of, error_of, object_visit, below, visits, refused_at, earlier, first}
+use Rattle.ls_grammar.specs.steps.Running.{Outcome, next, enter, made, with_room, run_all, run_object, run_part, run_level, outcome}
+use Rattle.ls_grammar.specs.Visiting.{deepest, Visit, line_of, error_of, object_visit, part_visits, below, visits, refused_at, earlier, first}
 
 -- ---- lists of visits
 
@@ -107,6 +107,12 @@ follow_object_at v room (Ok s) deep line = follow_enter v [] room (λ k. Ok (s, 
 follow_object : (depth : ℕ) → nat_lt deepest depth ≡ false → (d : Datum) (room : ℕ) → Follows (object_visit depth d ∷ []) room (run_object d room)
 follow_object depth deep d room = follow_object_at (object_visit depth d) room (eql_of d) deep refl
 
+-- ---- a part of a CONS
+
+follow_part : (f : Datum → ℕ → Outcome Specifier) (g : Datum → List Visit) → ((d : Datum) (k : ℕ) → Follows (g d) k (f d k)) → (part : Option Datum) (room : ℕ) → Follows (part_visits g part) room (run_part f part room)
+follow_part f g h None room = (refl, refl)
+follow_part f g h (Some d) room = h d room
+
 -- ---- a level
 
 abbrev own_visit : Span → ℕ → Level → Visit
@@ -131,6 +137,13 @@ follow_level f g h depth deep at (some_of ds) room =
 follow_level f g h depth deep at (none_of d) room =
     follow_enter (own_visit at depth (none_of d)) (g d) room (λ k. next (made not_of) (f d k)) deep refl
     (λ k. follow_made (g d) k (f d k) not_of (h d k))
+follow_level f g h depth deep at (pair_of car cdr) room =
+    let cars = part_visits g car in
+    let cdrs = part_visits g cdr in
+    let K : Specifier → ℕ → Outcome Specifier = λ a left. next (made (cons_of a)) (run_part f cdr left) in
+    follow_enter (own_visit at depth (pair_of car cdr)) (cars ++ cdrs) room (λ k. next K (run_part f car k)) deep refl
+    (λ k. follow_next cars cdrs k (run_part f car k) K (follow_part f g h car k)
+    (λ a left. follow_made cdrs left (run_part f cdr left) (cons_of a) (follow_part f g h cdr left)))
 
 deep_past : (depth : ℕ) → depth ≡ 257 → nat_lt deepest depth ≡ true
 deep_past depth e = grind (arith, nat_tests)

@@ -41,9 +41,6 @@ module _ (structures : Structures) where
   deeper n b = let fit = fit_expansion b in (fit.0, fit.1, omega (arith, fit.2))
 
   fit_atom : (n : ℕ) (at : Span) (b : Builtin) → OfKnown (IsFitIn (suc n)) (built_atom at b)
-  fit_atom n at name.Cons = tt
-  fit_atom n at name.Atom = tt
-  fit_atom n at name.List = tt
   fit_atom n at name.Sequence = tt
   fit_atom n at name.Satisfies = tt
   fit_atom n at name.Array = tt
@@ -75,6 +72,8 @@ module _ (structures : Structures) where
     all = λ n ss h. (let fit = fit_all n ss h in (fit.0, fit.1, omega (arith, fit.2)));
     some = λ n ss h. (let fit = fit_all n ss h in (fit.0, fit.1, omega (arith, fit.2)));
     none = λ n s h. (h.0, h.1, omega (arith, h.2));
+    any = λ n. (tt, tt, omega arith);
+    pair = λ n a b g h. ((g.0, h.0), (g.1, h.1), omega (arith, g.2, h.2));
   }
 
   fit_whole : (env : Environment) (d : Datum) (x : Specifier × ℕ) → whole_outcome env d ≡ Ok x → Fits structures x.0

@@ -1,4 +1,5 @@
--- A property of specifiers that ranges, built-in names, objects, AND, OR and NOT keep holds of all that data denote.
+-- A property of specifiers that ranges, built-in names, objects, AND, OR, NOT and CONS keep holds of all that data
+-- denote.
 use Rattle.std.proofs.Common.{◌≡◌, ℕ, ℤ, pos, zero, suc, ◌-◌, ◌-ℤ◌, ◌≤◌, ◌^◌, List, [], ◌∷◌, length, Result, Ok, Err, arith, lit≤}
 use Rattle.std.proofs.Common.{subst, sym}
 use Rattle.std.specs.Prelude.{nat_le, neg_ℤ, unsigned_abs, if◌then◌else◌, Option, Some, None, IfOk, IfSome}
@@ -20,7 +21,7 @@ use Rattle.ls_spec.specs.declared.spec.RangeKind.{RangeKind}
 use Rattle.ls_spec.specs.declared.spec.RangeKind.TheVariants.{Integer, Rational}
 use Rattle.ls_spec.specs.declared.spec.Bound.{Bound}
 use Rattle.ls_spec.specs.declared.spec.Bound.TheVariants.{Free, Incl}
-use Rattle.ls_spec.specs.Specifier.{Specifier, not_of, eql_to, range_of}
+use Rattle.ls_spec.specs.Specifier.{Specifier, all_objects, not_of, eql_to, range_of, cons_of}
 use Rattle.ls_spec.specs.Builtins.{expansion}
 use Rattle.ls_spec.specs.Fits.{IsSmall, IsSmallBound, IsSmallPoint}
 use Rattle.ls_env.specs.Environments.{Environment}
@@ -28,12 +29,12 @@ use Rattle.ls_grammar.specs.declared.refusal.Refusal.{Refusal}
 use Rattle.ls_grammar.specs.declared.refusal.RefusalKind.{RefusalKind}
 use Rattle.ls_grammar.specs.declared.refusal.RefusalKind.TheVariants as kind
 use Rattle.ls_grammar.specs.Numbers.{refusal, written, whole, is_star, bound_of, size_of, bits_of}
-use Rattle.ls_grammar.specs.Levels.{Level, refused, known, object, members, all_of, some_of, none_of, bad_argument}
+use Rattle.ls_grammar.specs.Levels.{Level, refused, known, object, members, all_of, some_of, none_of, pair_of, bad_argument}
 use Rattle.ls_grammar.specs.Levels.{range, range_level, from_to, below, signed_bytes, unsigned_bytes, sized, mod_level}
-use Rattle.ls_grammar.specs.Levels.{signed_level, unsigned_level, starred_level, not_level, eql_level}
+use Rattle.ls_grammar.specs.Levels.{signed_level, unsigned_level, starred_level, not_level, eql_level, cons_level}
 use Rattle.ls_grammar.specs.BuiltinLevels.{built_atom, built_list}
 use Rattle.ls_grammar.specs.Saying.{atom_level, list_level, head_level, items_level, form_level, level}
-use Rattle.ls_grammar.specs.Denoting.{object_form, number_point, conjunction, disjunction, Each, IsEql, Says, DenotesIn}
+use Rattle.ls_grammar.specs.Denoting.{object_form, number_point, conjunction, disjunction, Each, IsEql, SaysPart, Says, DenotesIn}
 use Rattle.ls_grammar.proofs.NumberLemmas.{small_power, small_whole, small_written}
 use Rattle.ls_grammar.proofs.BoundLemmas.{IsAtMost, of_bound, of_size, of_bits}
 
@@ -111,9 +112,16 @@ module _ (Q : Specifier → Type 0)
   of_eql_level at (d ∷ []) = tt
   of_eql_level at (d ∷ e ∷ ds) = tt
 
+  of_cons_level : (at : Span) (args : List Datum) → OfKnown Q (cons_level at args)
+  of_cons_level at [] = tt
+  of_cons_level at (d ∷ []) = tt
+  of_cons_level at (d ∷ e ∷ []) = tt
+  of_cons_level at (d ∷ e ∷ f ∷ ds) = tt
+
   of_built_list : (at : Span) (args : List Datum) (b : Builtin) → OfKnown Q (built_list at args b)
   of_built_list at args name.Not = of_not_level at args
   of_built_list at args name.Eql = of_eql_level at args
+  of_built_list at args name.Cons = of_cons_level at args
   of_built_list at args name.Integer = of_range_level Integer at args
   of_built_list at args name.Rational = of_range_level Rational at args
   of_built_list at args name.Mod = of_mod_level at args
@@ -163,6 +171,8 @@ pub record IsKept (P : ℕ → Specifier → Type 0) : Type 0 where
   pub all : (n : ℕ) (ss : List Specifier) → AllByRecursion (P n) ss → P (suc n) (conjunction ss)
   pub some : (n : ℕ) (ss : List Specifier) → AllByRecursion (P n) ss → P (suc n) (disjunction ss)
   pub none : (n : ℕ) (s : Specifier) → P n s → P (suc n) (not_of s)
+  pub any : (n : ℕ) → P n all_objects
+  pub pair : (n : ℕ) (a b : Specifier) → P n a → P n b → P (suc n) (cons_of a b)
 
 module _ (P : ℕ → Specifier → Type 0) (kept : IsKept P) where
   of_number : (n : ℕ) (at : Span) (o : Option Rat) → IfSome o IsSmall → IfOk (number_point at o) (P n)
@@ -185,6 +195,11 @@ module _ (P : ℕ → Specifier → Type 0) (kept : IsKept P) where
   of_each n R h (d ∷ ds) [] each = absurd each
   of_each n R h (d ∷ ds) (s ∷ ss) each = (h d s each.0, of_each n R h ds ss each.1)
 
+  of_part : (n : ℕ) (R : Datum → Specifier → Type 0) → ((d : Datum) (s : Specifier) → R d s → P n s)
+      → (part : Option Datum) (s : Specifier) → SaysPart R part s → P n s
+  of_part n R h None s says = subst (P n) (sym says) (kept.any n)
+  of_part n R h (Some d) s says = h d s says
+
   of_says : (n : ℕ) (R : Datum → Specifier → Type 0) → ((d : Datum) (s : Specifier) → R d s → P n s)
       → (l : Level) (s : Specifier) → OfKnown (P (suc n)) l → Says R l s → P (suc n) s
   of_says n R h (refused x) s shown says = absurd says
@@ -194,6 +209,8 @@ module _ (P : ℕ → Specifier → Type 0) (kept : IsKept P) where
   of_says n R h (all_of ds) s shown says = subst (P (suc n)) (sym says.1) (kept.all n says.0 (of_each n R h ds says.0 says.2))
   of_says n R h (some_of ds) s shown says = subst (P (suc n)) (sym says.1) (kept.some n says.0 (of_each n R h ds says.0 says.2))
   of_says n R h (none_of d) s shown says = subst (P (suc n)) (sym says.1) (kept.none n says.0 (h d says.0 says.2))
+  of_says n R h (pair_of car cdr) s shown says =
+      subst (P (suc n)) (sym says.2) (kept.pair n says.0 says.1 (of_part n R h car says.0 says.3) (of_part n R h cdr says.1 says.4))
 
   -- what the levels keep holds of each specifier that a datum denotes
   pub kept_in : (env : Environment) (n : ℕ) (d : Datum) (s : Specifier) → DenotesIn env n d s → P n s

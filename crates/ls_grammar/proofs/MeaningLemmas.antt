@@ -1,18 +1,18 @@
 -- The specifier that an outcome has is denoted by the datum, and a datum denotes one specifier at most.
-use Rattle.std.proofs.Common.{◌≡◌, ℕ, ◌+◌, ◌-◌, zero, suc, List, [], ◌∷◌, Result, Ok, Err, refl, sym, ap, subst, ◌∙◌, arith}
+use Rattle.std.proofs.Common.{◌≡◌, ℕ, ◌+◌, ◌-◌, zero, suc, List, [], ◌∷◌, Option, Some, None, Result, Ok, Err, refl, sym, ap, subst, ◌∙◌, arith}
 use Rattle.std.proofs.lemmas.Bool.{cond_both}
 use Rattle.std.specs.Prelude.{nat_lt}
 use Rattle.ls_reader.specs.declared.datum.Span.{Span}
 use Rattle.ls_reader.specs.declared.datum.Datum.{Datum}
-use Rattle.ls_spec.specs.Specifier.{Specifier, not_of}
+use Rattle.ls_spec.specs.Specifier.{Specifier, not_of, cons_of}
 use Rattle.ls_env.specs.Environments.{Environment}
 use Rattle.ls_grammar.specs.declared.refusal.RefusalKind.TheVariants as kind
 use Rattle.ls_grammar.specs.declared.refusal.Refusal.{Refusal}
 use Rattle.ls_grammar.specs.Numbers.{refusal}
-use Rattle.ls_grammar.specs.Levels.{Level, refused, known, object, members, all_of, some_of, none_of}
+use Rattle.ls_grammar.specs.Levels.{Level, refused, known, object, members, all_of, some_of, none_of, pair_of}
 use Rattle.ls_grammar.specs.Saying.{level, weight_of}
-use Rattle.ls_grammar.specs.Denoting.{eql_of, conjunction, disjunction, Each, IsEql, Says, DenotesIn, Denotes}
-use Rattle.ls_grammar.specs.steps.Running.{Outcome, next, enter, made, with_room, run_all, run_object, run_level, outcome}
+use Rattle.ls_grammar.specs.Denoting.{eql_of, conjunction, disjunction, Each, IsEql, SaysPart, Says, DenotesIn, Denotes}
+use Rattle.ls_grammar.specs.steps.Running.{Outcome, next, enter, made, with_room, run_all, run_object, run_part, run_level, outcome}
 
 -- what holds of an outcome's specifier, if it has one
 abbrev pub Means : {X : Type 0} → (X → Type 0) → Outcome X → Type 0
@@ -39,6 +39,10 @@ means_with_room (Ok s) room = refl
 means_object : (d : Datum) (room : ℕ) → Means (IsEql d) (run_object d room)
 means_object d room = means_enter (IsEql d) d.span 1 room (with_room (eql_of d)) (means_with_room (eql_of d))
 
+means_part : (P : Datum → Specifier → Type 0) (f : Datum → ℕ → Outcome Specifier) → ((d : Datum) (k : ℕ) → Means (P d) (f d k)) → (part : Option Datum) (room : ℕ) → Means (SaysPart P part) (run_part f part room)
+means_part P f h None room = refl
+means_part P f h (Some d) room = h d room
+
 means_level : (P : Datum → Specifier → Type 0) (f : Datum → ℕ → Outcome Specifier) → ((d : Datum) (k : ℕ) → Means (P d) (f d k)) → (l : Level) (room : ℕ) → Means (Says P l) (run_level f l room)
 means_level P f h (refused x) room = tt
 means_level P f h (known s) room = refl
@@ -51,6 +55,11 @@ means_level P f h (some_of ds) room =
     means_next (Each P ds) (Says P (some_of ds)) (made disjunction) (run_all f ds room) (means_all P f h ds room) (λ ss k p. (ss, refl, p))
 means_level P f h (none_of d) room =
     means_next (P d) (Says P (none_of d)) (made not_of) (f d room) (h d room) (λ s k p. (s, refl, p))
+means_level P f h (pair_of car cdr) room =
+    let K : Specifier → ℕ → Outcome Specifier = λ a left. next (made (cons_of a)) (run_part f cdr left) in
+    means_next (SaysPart P car) (Says P (pair_of car cdr)) K (run_part f car room) (means_part P f h car room)
+    (λ a k p. means_next (SaysPart P cdr) (Says P (pair_of car cdr)) (made (cons_of a)) (run_part f cdr k) (means_part P f h cdr k)
+    (λ b j q. (a, b, refl, p, q)))
 
 -- the specifier of an outcome is denoted within as many levels
 pub means_outcome : (env : Environment) (left : ℕ) (d : Datum) (room : ℕ) → Means (DenotesIn env left d) (outcome env left d room)
@@ -72,6 +81,10 @@ same_each P Q h (d ∷ ds) (s ∷ ss) (t ∷ ts) p q = let one = h d s t p.0 q.0
 same_eql : (d : Datum) (s t : Specifier) → IsEql d s → IsEql d t → s ≡ t
 same_eql d s t p q = let both : Ok s ≡ Ok t = sym p ∙ q in cc
 
+same_part : (P Q : Datum → Specifier → Type 0) → ((d : Datum) (s t : Specifier) → P d s → Q d t → s ≡ t) → (part : Option Datum) (s t : Specifier) → SaysPart P part s → SaysPart Q part t → s ≡ t
+same_part P Q h None s t p q = p ∙ sym q
+same_part P Q h (Some d) s t p q = h d s t p q
+
 same_says : (P Q : Datum → Specifier → Type 0) → ((d : Datum) (s t : Specifier) → P d s → Q d t → s ≡ t) → (l : Level) (s t : Specifier) → Says P l s → Says Q l t → s ≡ t
 same_says P Q h (refused x) s t p q = absurd p
 same_says P Q h (known u) s t p q = p ∙ sym q
@@ -80,6 +93,10 @@ same_says P Q h (members ds) s t p q = p.1 ∙ ap disjunction (same_each IsEql I
 same_says P Q h (all_of ds) s t p q = p.1 ∙ ap conjunction (same_each P Q h ds p.0 q.0 p.2 q.2) ∙ sym q.1
 same_says P Q h (some_of ds) s t p q = p.1 ∙ ap disjunction (same_each P Q h ds p.0 q.0 p.2 q.2) ∙ sym q.1
 same_says P Q h (none_of d) s t p q = p.1 ∙ ap not_of (h d p.0 q.0 p.2 q.2) ∙ sym q.1
+same_says P Q h (pair_of car cdr) s t p q =
+    let cars = same_part P Q h car p.0 q.0 p.3 q.3 in
+    let cdrs = same_part P Q h cdr p.1 q.1 p.4 q.4 in
+    p.2 ∙ (λ i. cons_of (cars i) (cdrs i)) ∙ sym q.2
 
 same_in : (env : Environment) (n m : ℕ) (d : Datum) (s t : Specifier) → DenotesIn env n d s → DenotesIn env m d t → s ≡ t
 same_in env zero m d s t p q = absurd p
@@ -98,6 +115,10 @@ wide_each P Q h [] (s ∷ ss) p = absurd p
 wide_each P Q h (d ∷ ds) [] p = absurd p
 wide_each P Q h (d ∷ ds) (s ∷ ss) p = (h d s p.0, wide_each P Q h ds ss p.1)
 
+wide_part : (P Q : Datum → Specifier → Type 0) → ((d : Datum) (s : Specifier) → P d s → Q d s) → (part : Option Datum) (s : Specifier) → SaysPart P part s → SaysPart Q part s
+wide_part P Q h None s p = p
+wide_part P Q h (Some d) s p = h d s p
+
 wide_says : (P Q : Datum → Specifier → Type 0) → ((d : Datum) (s : Specifier) → P d s → Q d s) → (l : Level) (s : Specifier) → Says P l s → Says Q l s
 wide_says P Q h (refused x) s p = p
 wide_says P Q h (known u) s p = p
@@ -106,6 +127,7 @@ wide_says P Q h (members ds) s p = p
 wide_says P Q h (all_of ds) s p = (p.0, p.1, wide_each P Q h ds p.0 p.2)
 wide_says P Q h (some_of ds) s p = (p.0, p.1, wide_each P Q h ds p.0 p.2)
 wide_says P Q h (none_of d) s p = (p.0, p.1, h d p.0 p.2)
+wide_says P Q h (pair_of car cdr) s p = (p.0, p.1, p.2, wide_part P Q h car p.0 p.3, wide_part P Q h cdr p.1 p.4)
 
 least_in : (env : Environment) (R : Datum → Specifier → Type 0) → ((d : Datum) (s : Specifier) → Says R (level env d) s → R d s) → (n : ℕ) (d : Datum) (s : Specifier) → DenotesIn env n d s → R d s
 least_in env R closed zero d s p = absurd p
@@ -133,6 +155,10 @@ each_in env (d ∷ ds) (s ∷ ss) p =
     let rest = each_in env ds ss p.1 in
     (p.0.0 + rest.0, (more env p.0.0 rest.0 d s p.0.1, wide_each (DenotesIn env rest.0) (DenotesIn env (p.0.0 + rest.0)) (more_left env rest.0 p.0.0) ds ss rest.1))
 
+part_in : (env : Environment) (part : Option Datum) (s : Specifier) → SaysPart (Denotes env) part s → (n : ℕ) × SaysPart (DenotesIn env n) part s
+part_in env None s p = (0, p)
+part_in env (Some d) s p = p
+
 closed_in : (env : Environment) (l : Level) (s : Specifier) → Says (Denotes env) l s → (n : ℕ) × Says (DenotesIn env n) l s
 closed_in env (refused x) s p = absurd p
 closed_in env (known u) s p = (0, p)
@@ -141,6 +167,12 @@ closed_in env (members ds) s p = (0, p)
 closed_in env (all_of ds) s p = let q = each_in env ds p.0 p.2 in (q.0, (p.0, p.1, q.1))
 closed_in env (some_of ds) s p = let q = each_in env ds p.0 p.2 in (q.0, (p.0, p.1, q.1))
 closed_in env (none_of d) s p = (p.2.0, (p.0, p.1, p.2.1))
+closed_in env (pair_of car cdr) s p =
+    let q = part_in env car p.0 p.3 in
+    let r = part_in env cdr p.1 p.4 in
+    let first = wide_part (DenotesIn env q.0) (DenotesIn env (q.0 + r.0)) (more env q.0 r.0) car p.0 q.1 in
+    let second = wide_part (DenotesIn env r.0) (DenotesIn env (q.0 + r.0)) (more_left env r.0 q.0) cdr p.1 r.1 in
+    (q.0 + r.0, (p.0, p.1, p.2, first, second))
 
 -- the relation keeps to the levels itself
 pub denotes_closed : (env : Environment) (d : Datum) (s : Specifier) → Says (Denotes env) (level env d) s → Denotes env d s

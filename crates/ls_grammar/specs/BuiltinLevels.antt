@@ -1,5 +1,5 @@
 -- What each built-in name says as an atom, and as the head of a list with arguments (4.2.3, figures 4-2 to 4-4).
--- The names of conses, lists, sequences, arrays, strings and predicates are not built.
+-- The names of sequences, arrays, strings and predicates are not built.
 use Rattle.std.specs.Prelude.{List}
 use Rattle.ls_reader.specs.declared.datum.Span.{Span}
 use Rattle.ls_reader.specs.declared.datum.Datum.{Datum}
@@ -9,14 +9,14 @@ use Rattle.ls_spec.specs.declared.spec.RangeKind.TheVariants.{Integer, Rational}
 use Rattle.ls_spec.specs.Builtins.{expansion}
 use Rattle.ls_grammar.specs.declared.refusal.RefusalKind.TheVariants as kind
 use Rattle.ls_grammar.specs.Numbers.{refusal}
-use Rattle.ls_grammar.specs.Levels.{Level, refused, known, members, all_of, some_of, bad_argument, not_built, range_level, mod_level, signed_level, unsigned_level, starred_level, not_level, eql_level}
+use Rattle.ls_grammar.specs.Levels.{Level, refused, known, members, all_of, some_of, bad_argument, not_built, range_level, mod_level, signed_level, unsigned_level, starred_level, not_level, eql_level, cons_level}
 
 -- as an atom: the names of figures 4-2 and 4-3 are specifiers by themselves, those of figure 4-4 are not
 abbrev pub built_atom : Span → Builtin → Level
 built_atom at name.T = known (expansion name.T)
 built_atom at name.Nil = known (expansion name.Nil)
-built_atom at name.Atom = not_built at
-built_atom at name.List = not_built at
+built_atom at name.Atom = known (expansion name.Atom)
+built_atom at name.List = known (expansion name.List)
 built_atom at name.Null = known (expansion name.Null)
 built_atom at name.Boolean = known (expansion name.Boolean)
 built_atom at name.Symbol = known (expansion name.Symbol)
@@ -46,7 +46,7 @@ built_atom at name.Integer = known (expansion name.Integer)
 built_atom at name.Rational = known (expansion name.Rational)
 built_atom at name.SignedByte = known (expansion name.SignedByte)
 built_atom at name.UnsignedByte = known (expansion name.UnsignedByte)
-built_atom at name.Cons = not_built at
+built_atom at name.Cons = known (expansion name.Cons)
 built_atom at name.Array = not_built at
 built_atom at name.SimpleArray = not_built at
 built_atom at name.Vector = not_built at
@@ -79,8 +79,8 @@ built_atom at name.Star = refused (refusal kind.StarNotAllowed at)
 abbrev pub built_list : Span → List Datum → Builtin → Level
 built_list at args name.T = bad_argument at
 built_list at args name.Nil = bad_argument at
-built_list at args name.Atom = not_built at
-built_list at args name.List = not_built at
+built_list at args name.Atom = bad_argument at
+built_list at args name.List = bad_argument at
 built_list at args name.Null = bad_argument at
 built_list at args name.Boolean = bad_argument at
 built_list at args name.Symbol = bad_argument at
@@ -110,7 +110,7 @@ built_list at args name.Integer = range_level Integer at args
 built_list at args name.Rational = range_level Rational at args
 built_list at args name.SignedByte = signed_level at args
 built_list at args name.UnsignedByte = unsigned_level at args
-built_list at args name.Cons = not_built at
+built_list at args name.Cons = cons_level at args
 built_list at args name.Array = not_built at
 built_list at args name.SimpleArray = not_built at
 built_list at args name.Vector = not_built at

@@ -1,5 +1,5 @@
 -- What a datum can say as a specifier one level deep, and what the built-in heads of lists say (4.2.3).
-use Rattle.std.specs.Prelude.{ℕ, ℤ, pos, neg_ℤ, ◌-ℤ◌, ◌-◌, ◌^◌, nat_le, if◌then◌else◌, List, [], ◌∷◌, length, Result, Ok, Err}
+use Rattle.std.specs.Prelude.{ℕ, ℤ, pos, neg_ℤ, ◌-ℤ◌, ◌-◌, ◌^◌, nat_le, if◌then◌else◌, List, [], ◌∷◌, length, Option, Some, None, Result, Ok, Err}
 use Rattle.std.specs.List.{list_all}
 use Rattle.ls_reader.specs.declared.datum.Span.{Span}
 use Rattle.ls_reader.specs.declared.datum.Datum.{Datum}
@@ -28,6 +28,8 @@ pub data Level : Type 0 where
   all_of : List Datum → Level
   some_of : List Datum → Level
   none_of : Datum → Level
+  -- CONS of a car and a cdr; where there is no datum, of any object
+  pair_of : Option Datum → Option Datum → Level
 
 abbrev pub bad_argument : Span → Level
 bad_argument at = refused (refusal kind.BadArgument at)
@@ -101,3 +103,13 @@ not_level at _ = bad_argument at
 abbrev pub eql_level : Span → List Datum → Level
 eql_level at (d ∷ []) = object d
 eql_level at _ = bad_argument at
+
+-- CONS takes at most two specifiers; one that is missing, or `*`, is T
+abbrev pub part_of : Datum → Option Datum
+part_of d = if is_star d then None else Some d
+
+abbrev pub cons_level : Span → List Datum → Level
+cons_level at [] = pair_of None None
+cons_level at (car ∷ []) = pair_of (part_of car) None
+cons_level at (car ∷ cdr ∷ []) = pair_of (part_of car) (part_of cdr)
+cons_level at _ = bad_argument at

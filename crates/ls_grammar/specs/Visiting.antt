@@ -1,5 +1,5 @@
 -- What is visited in a datum, in order, and the first thing that is wrong.
-use Rattle.std.specs.Prelude.{ℕ, zero, suc, ◌≡◌, ◌+◌, ◌-◌, ◌⊎◌, nat_lt, if◌then◌else◌, List, [], ◌∷◌, Option, Some, None}
+use Rattle.std.specs.Prelude.{ℕ, zero, suc, ◌≡◌, ◌+◌, ◌-◌, ◌⊎◌, nat_lt, if◌then◌else◌, List, [], ◌∷◌, ◌++◌, Option, Some, None}
 use Rattle.std.specs.Prelude.{Result, Ok, Err}
 use Rattle.std.specs.List.{flat_map}
 use Rattle.ls_reader.specs.declared.datum.Span.{Span}
@@ -13,7 +13,7 @@ use Rattle.ls_grammar.specs.declared.refusal.Refusal.{Refusal}
 use Rattle.ls_grammar.specs.declared.refusal.Stop.{Stop}
 use Rattle.ls_grammar.specs.declared.refusal.Stop.TheVariants as stop
 use Rattle.ls_grammar.specs.Numbers.{refusal}
-use Rattle.ls_grammar.specs.Levels.{Level, refused, known, object, members, all_of, some_of, none_of}
+use Rattle.ls_grammar.specs.Levels.{Level, refused, known, object, members, all_of, some_of, none_of, pair_of}
 use Rattle.ls_grammar.specs.Saying.{level, weight_of}
 use Rattle.ls_grammar.specs.Denoting.{eql_of, Denotes}
 
@@ -49,6 +49,11 @@ error_of (Err x) = Some x
 abbrev pub object_visit : ℕ → Datum → Visit
 object_visit depth d = record { place = d.span; depth = depth; weight = 1; line = error_of (eql_of d) }
 
+-- what is visited of a part of a CONS
+abbrev pub part_visits : (Datum → List Visit) → Option Datum → List Visit
+part_visits visits_of None = []
+part_visits visits_of (Some d) = visits_of d
+
 -- what is visited below one level: the objects of MEMBER and EQL at its own depth, and the parts of specifiers by
 -- `visits_of`
 abbrev pub below : (Datum → List Visit) → ℕ → Level → List Visit
@@ -59,6 +64,7 @@ below visits_of depth (members ds) = flat_map (λ d. object_visit depth d ∷ []
 below visits_of depth (all_of ds) = flat_map visits_of ds
 below visits_of depth (some_of ds) = flat_map visits_of ds
 below visits_of depth (none_of d) = visits_of d
+below visits_of depth (pair_of car cdr) = part_visits visits_of car ++ part_visits visits_of cdr
 
 -- The visits of a datum at a depth, first its own, then those of its arguments from left to right. `left` levels are
 -- left; a datum past the last of them is not looked at.

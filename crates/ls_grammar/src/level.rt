@@ -10,7 +10,7 @@ ghost use Rattle.ls_grammar.specs.BuiltinLevels.{built_atom, built_list};
 ghost use Rattle.ls_grammar.specs.Saying as saying;
 ghost use Rattle.ls_grammar.specs.Numbers.{whole, is_star, refusal, IsSizeWithin};
 ghost use Rattle.ls_spec.specs.declared.spec.Bound.TheVariants.{Incl};
-ghost use Rattle.ls_grammar.specs.steps.Answering.{shown, IsExpandable};
+ghost use Rattle.ls_grammar.specs.steps.Answering.{lent, shown, IsExpandable};
 
 use crate::number::{bits_of, bound_of, is_star, refusal, size_of};
 use crate::refusal::{Refusal, RefusalKind};
@@ -20,6 +20,15 @@ use ls_reader::{Datum, Form, Span};
 use ls_spec::{Bound, RangeKind, Spec};
 use ls_tables::{Builtin, builtin};
 use std::slice;
+
+/// A part of a CONS, with its datum lent.
+#[derive(Drop)]
+pub(crate) enum Part<'a> {
+    /// Any object.
+    Any,
+    /// The objects of a specifier.
+    Of(&'a Datum),
+}
 
 /// What a datum says one level deep, with its parts lent.
 #[derive(Drop)]
@@ -38,6 +47,8 @@ pub(crate) enum Level<'a> {
     AllOf(&'a [Datum]),
     SomeOf(&'a [Datum]),
     NoneOf(&'a Datum),
+    /// CONS of a car and a cdr.
+    ConsOf(Part<'a>, Part<'a>),
 }
 
 fn refused(kind: RefusalKind, at: Span) -> Level<'static>
@@ -238,6 +249,29 @@ fn eql_level(at: Span, args: &[Datum]) -> Level<'_>
     }
 }
 
+/// The part of a CONS that an argument is.
+fn part_of(arg: &Datum) -> Part<'_>
+    ensures { lent result ≡ spec.part_of arg.now }
+{
+    if is_star(arg) {
+        Part::Any
+    } else {
+        Part::Of(arg)
+    }
+}
+
+fn cons_level(at: Span, args: &[Datum]) -> Level<'_>
+    ensures value { shown result ≡ spec.cons_level at args.now }
+    ensures expandable { IsExpandable result }
+{
+    match args {
+        [] => Level::ConsOf(Part::Any, Part::Any),
+        [car] => Level::ConsOf(part_of(car), Part::Any),
+        [car, cdr] => Level::ConsOf(part_of(car), part_of(cdr)),
+        _ => refused(RefusalKind::BadArgument, at),
+    }
+}
+
 /// A list with a built-in name as its head.
 fn built_list(at: Span, args: &[Datum], name: Builtin) -> Level<'_>
     ensures value { shown result ≡ built_list at args.now name }
@@ -249,6 +283,7 @@ fn built_list(at: Span, args: &[Datum], name: Builtin) -> Level<'_>
         Builtin::Not => not_level(at, args),
         Builtin::Member => Level::Members(args),
         Builtin::Eql => eql_level(at, args),
+        Builtin::Cons => cons_level(at, args),
         Builtin::Integer => range_level(RangeKind::Integer, at, args),
         Builtin::Rational => range_level(RangeKind::Rational, at, args),
         Builtin::Mod => mod_level(at, args),
@@ -262,10 +297,7 @@ fn built_list(at: Span, args: &[Datum], name: Builtin) -> Level<'_>
         | Builtin::Real => starred_level(RefusalKind::FloatRange, 2, name, at, args),
         Builtin::Complex => starred_level(RefusalKind::ComplexPart, 1, name, at, args),
         Builtin::Function | Builtin::Values => refused(RefusalKind::FunctionList, at),
-        Builtin::Cons
-        | Builtin::Atom
-        | Builtin::List
-        | Builtin::Sequence
+        Builtin::Sequence
         | Builtin::Satisfies
         | Builtin::Array
         | Builtin::SimpleArray
@@ -291,10 +323,7 @@ fn built_atom(at: Span, name: Builtin) -> Level<'static>
         Builtin::Values => refused(RefusalKind::FunctionList, at),
         Builtin::And | Builtin::Or | Builtin::Not | Builtin::Member | Builtin::Eql | Builtin::Mod =>
             refused(RefusalKind::BadArgument, at),
-        Builtin::Cons
-        | Builtin::Atom
-        | Builtin::List
-        | Builtin::Sequence
+        Builtin::Sequence
         | Builtin::Satisfies
         | Builtin::Array
         | Builtin::SimpleArray
@@ -383,7 +412,7 @@ impl Level<'_> {
         match self {
             Level::Refused(_) | Level::Known(_) | Level::Named(_) => 1,
             Level::Object(_) | Level::Members(_) => 1,
-            Level::AllOf(_) | Level::SomeOf(_) | Level::NoneOf(_) => 1,
+            Level::AllOf(_) | Level::SomeOf(_) | Level::NoneOf(_) | Level::ConsOf(_, _) => 1,
         }
     }
 }

@@ -8,11 +8,11 @@ ghost use Rattle.ls_spec.specs.Meaning.{specifier};
 ghost use Rattle.ls_spec.specs.Fits.{Fits};
 ghost use Rattle.ls_grammar.specs.declared.refusal.Refusal.{Refusal};
 ghost use Rattle.ls_grammar.specs.Denoting.{eql_of, number_point};
-ghost use Rattle.ls_grammar.specs.steps.Answering.{shown, IsExpandable, Steps, Gives, stopped};
-ghost use Rattle.ls_grammar.specs.steps.Running.{run_object, run_all, run_level, outcome};
+ghost use Rattle.ls_grammar.specs.steps.Answering.{lent, shown, IsExpandable, Steps, Gives, stopped};
+ghost use Rattle.ls_grammar.specs.steps.Running.{run_object, run_all, run_part, run_pair, run_level, outcome};
 ghost use Rattle.ls_grammar.specs.Visiting.{Resolves, IsReason, AnswersWith, RefusesWith, ResolvesOrIsRefused, refusal_of};
 
-use crate::level::{Level, level_of};
+use crate::level::{Level, Part, level_of};
 use crate::number::{refusal, written};
 use crate::refusal::{Refusal, RefusalKind, Stop};
 use ls_env::Env;
@@ -92,6 +92,38 @@ fn resolve_all(
 }
 
 #[cycle(resolve)]
+fn resolve_part(
+    alloc: Global,
+    env: &Env,
+    part: Part<'_>,
+    left: u32,
+    room: &mut u64,
+) -> Result<Spec, Stop>
+    ensures { Steps specifier result room.new (run_part (outcome env.now left) (lent part.entry) room.old) }
+{
+    match part {
+        Part::Any => Ok(Spec::All),
+        Part::Of(datum) => resolve_in(alloc, env, datum, left, room),
+    }
+}
+
+#[cycle(resolve)]
+fn resolve_cons(
+    alloc: Global,
+    env: &Env,
+    car: Part<'_>,
+    cdr: Part<'_>,
+    left: u32,
+    room: &mut u64,
+) -> Result<Spec, Stop>
+    ensures { Steps specifier result room.new (run_pair (outcome env.now left) (lent car.entry) (lent cdr.entry) room.old) }
+{
+    let first = resolve_part(alloc, env, car, left, room)?;
+    let second = resolve_part(alloc, env, cdr, left, room)?;
+    Ok(Spec::ConsOf(Boxed::new(alloc, first)?, Boxed::new(alloc, second)?))
+}
+
+#[cycle(resolve)]
 fn resolve_at(
     alloc: Global,
     env: &Env,
@@ -114,6 +146,7 @@ fn resolve_at(
             let part = resolve_in(alloc, env, part, left, room)?;
             Ok(Spec::Not(Boxed::new(alloc, part)?))
         }
+        Level::ConsOf(car, cdr) => resolve_cons(alloc, env, car, cdr, left, room),
     }
 }
 

@@ -78,6 +78,13 @@ fn write_spec(out: &mut String, spec: &Spec) -> Result<(), AllocError> {
         Spec::Eql(point) => write_point(out, point),
         Spec::Range { kind, lo, hi } => write_range(out, *kind, lo, hi),
         Spec::Kind(kind) => write!(out, "{kind:?}"),
+        Spec::ConsOf(car, cdr) => {
+            out.push_str("(cons ")?;
+            write_spec(out, car.get())?;
+            out.push_str(" ")?;
+            write_spec(out, cdr.get())?;
+            out.push_str(")")
+        }
         _ => out.push_str("other"),
     }
 }
@@ -108,7 +115,7 @@ fn resolution(rt: &HostRuntime, text: &str) -> Option<String> {
     describe(rt, &found).ok()
 }
 
-const RESOLVED: [(&str, &str); 27] = [
+const RESOLVED: [(&str, &str); 32] = [
     ("t", "all"),
     ("nil", "nothing"),
     ("null", "NIL"),
@@ -145,9 +152,14 @@ const RESOLVED: [(&str, &str); 27] = [
     ("real", "(or rational:*..* (or SingleFloat DoubleFloat))"),
     ("(complex *)", "Complex"),
     ("function", "(or Function CompiledFunction)"),
+    ("(cons)", "(cons all all)"),
+    ("(cons * (cons bit))", "(cons all (cons integer:0..1 all))"),
+    ("(cons (cons *) *)", "(cons (cons all all) all)"),
+    ("atom", "not (cons all all)"),
+    ("list", "(or NIL (cons all all))"),
 ];
 
-const REFUSED: [(&str, &str); 51] = [
+const REFUSED: [(&str, &str); 56] = [
     ("(float 1 2 3)", "FloatRange 1"),
     ("(or t (real 0))", "FloatRange 7"),
     ("(long-float * * *)", "BadArgument 1"),
@@ -192,8 +204,13 @@ const REFUSED: [(&str, &str); 51] = [
     ("(mod -1/1152921504606846977)", "NumberTooWide 6"),
     ("*", "StarNotAllowed 1"),
     ("(or integer *)", "StarNotAllowed 13"),
-    ("(and cons *)", "NotBuilt 6"),
-    ("(list 1 2)", "NotBuilt 1"),
+    ("(and cons *)", "StarNotAllowed 11"),
+    ("(and (atom) *)", "BadArgument 6"),
+    ("(list 1 2)", "BadArgument 1"),
+    ("(cons t t t)", "BadArgument 1"),
+    ("(cons * (or *))", "StarNotAllowed 13"),
+    ("(cons (eql) (mod 0))", "BadArgument 7"),
+    ("sequence", "NotBuilt 1"),
     ("satisfies", "NotBuilt 1"),
     ("(foo *)", "NotBuilt 1"),
     ("(not foo)", "NotBuilt 6"),

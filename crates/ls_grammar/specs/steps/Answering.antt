@@ -1,6 +1,7 @@
 -- What the code's answers stand for.
-use Rattle.std.specs.Prelude.{ℕ, ◌≡◌, IsTrue, Result, Ok, Err}
+use Rattle.std.specs.Prelude.{ℕ, ◌≡◌, IsTrue, Option, Some, None, Result, Ok, Err}
 use Rattle.ls_reader.specs.declared.datum.Span.{Span}
+use Rattle.ls_reader.specs.declared.datum.Datum.{Datum}
 use Rattle.ls_grammar.specs.declared.refusal.RefusalKind.{RefusalKind}
 use Rattle.ls_grammar.specs.declared.refusal.RefusalKind.TheVariants as kind
 use Rattle.ls_grammar.specs.Numbers.{refusal}
@@ -11,9 +12,16 @@ use Rattle.ls_grammar.specs.declared.refusal.Refusal.{Refusal}
 use Rattle.ls_grammar.specs.declared.refusal.Stop.{Stop}
 use Rattle.ls_grammar.specs.declared.refusal.Stop.TheVariants as stop
 use Rattle.ls_grammar.specs.declared.level.Level as code
+use Rattle.ls_grammar.specs.declared.level.Part as code_part
+use Rattle.ls_grammar.specs.declared.level.Part.TheVariants as part
 use Rattle.ls_grammar.specs.declared.level.Level.TheVariants as variant
-use Rattle.ls_grammar.specs.Levels.{Level, refused, known, object, members, all_of, some_of, none_of}
+use Rattle.ls_grammar.specs.Levels.{Level, refused, known, object, members, all_of, some_of, none_of, pair_of}
 use Rattle.ls_grammar.specs.steps.Running.{Outcome}
+
+-- the datum of a part of a CONS
+abbrev pub lent : code_part.Part → Option Datum
+lent part.Any = None
+lent (part.Of d) = Some d.now
 
 -- the level that one of the code stands for
 abbrev pub shown : code.Level → Level
@@ -25,6 +33,7 @@ shown (variant.Members ds) = members ds.now
 shown (variant.AllOf ds) = all_of ds.now
 shown (variant.SomeOf ds) = some_of ds.now
 shown (variant.NoneOf d) = none_of d.now
+shown (variant.ConsOf car cdr) = pair_of (lent car) (lent cdr)
 
 -- a name that is shown has a meaning as an atom
 abbrev pub IsExpandable : code.Level → Type 0

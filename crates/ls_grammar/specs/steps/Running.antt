@@ -1,13 +1,13 @@
 -- Resolving with a room that falls, step by step, as the code goes.
-use Rattle.std.specs.Prelude.{ℕ, zero, suc, ◌-◌, nat_lt, if◌then◌else◌, List, [], ◌∷◌, ◌++◌, Result, Ok, Err}
+use Rattle.std.specs.Prelude.{ℕ, zero, suc, ◌-◌, nat_lt, if◌then◌else◌, List, [], ◌∷◌, ◌++◌, Option, Some, None, Result, Ok, Err}
 use Rattle.ls_reader.specs.declared.datum.Span.{Span}
 use Rattle.ls_reader.specs.declared.datum.Datum.{Datum}
-use Rattle.ls_spec.specs.Specifier.{Specifier, not_of}
+use Rattle.ls_spec.specs.Specifier.{Specifier, all_objects, not_of, cons_of}
 use Rattle.ls_env.specs.Environments.{Environment}
 use Rattle.ls_grammar.specs.declared.refusal.RefusalKind.TheVariants as kind
 use Rattle.ls_grammar.specs.declared.refusal.Refusal.{Refusal}
 use Rattle.ls_grammar.specs.Numbers.{refusal}
-use Rattle.ls_grammar.specs.Levels.{Level, refused, known, object, members, all_of, some_of, none_of}
+use Rattle.ls_grammar.specs.Levels.{Level, refused, known, object, members, all_of, some_of, none_of, pair_of}
 use Rattle.ls_grammar.specs.Saying.{level, weight_of}
 use Rattle.ls_grammar.specs.Denoting.{eql_of, conjunction, disjunction}
 
@@ -43,6 +43,15 @@ behind before r = next (made (λ (ss : List Specifier). before ++ ss)) r
 abbrev pub run_object : Datum → ℕ → Outcome Specifier
 run_object d room = enter d.span 1 (with_room (eql_of d)) room
 
+-- a part of a CONS, where f runs its datum
+abbrev pub run_part : (Datum → ℕ → Outcome Specifier) → Option Datum → ℕ → Outcome Specifier
+run_part f None room = Ok (all_objects, room)
+run_part f (Some d) room = f d room
+
+-- a CONS: the car, and then the cdr
+abbrev pub run_pair : (Datum → ℕ → Outcome Specifier) → Option Datum → Option Datum → ℕ → Outcome Specifier
+run_pair f car cdr room = next (λ a left. next (made (cons_of a)) (run_part f cdr left)) (run_part f car room)
+
 -- a level, where f runs the data below it
 abbrev pub run_level : (Datum → ℕ → Outcome Specifier) → Level → ℕ → Outcome Specifier
 run_level f (refused x) room = Err x
@@ -52,6 +61,7 @@ run_level f (members ds) room = next (made disjunction) (run_all run_object ds r
 run_level f (all_of ds) room = next (made conjunction) (run_all f ds room)
 run_level f (some_of ds) room = next (made disjunction) (run_all f ds room)
 run_level f (none_of d) room = next (made not_of) (f d room)
+run_level f (pair_of car cdr) room = run_pair f car cdr room
 
 -- a datum, with so many levels left
 unfoldable pub outcome : Environment → ℕ → Datum → ℕ → Outcome Specifier
