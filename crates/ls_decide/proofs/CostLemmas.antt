@@ -14,7 +14,7 @@ use Rattle.ls_lists.specs.Costs.{elements_in, table_specifiers, element_lists, p
 use Rattle.ls_intern.specs.Places.{at, specifiers_at, AllBelow, Extends}
 use Rattle.ls_intern.proofs.PlaceLemmas.{extends_both, all_below_grown, below_grown, at_grown, specifiers_grown}
 use Rattle.ls_decide.specs.Answers.{TellsCost}
-use Rattle.ls_decide.proofs.GatherLemmas.{below_last, specifiers_last}
+use Rattle.ls_sides.proofs.GatherLemmas.{below_last, specifiers_last}
 use Rattle.ls_decide.proofs.ListLemmas.{sum_more}
 
 -- a sum over some of the specifiers is at most that over all

@@ -16,11 +16,11 @@ use Rattle.ls_lists.proofs.WalkLemmas.{walk_done, walk_new, walk_adds, walk_fres
 use Rattle.ls_intern.specs.Places.{at, specifiers_at, AllBelow, Distinct}
 use Rattle.ls_memo.specs.Kept.{kept_for}
 use Rattle.ls_decide.specs.steps.Cut.{cut}
-use Rattle.ls_decide.specs.steps.Gathering.{AreSides}
+use Rattle.ls_sides.specs.Gathering.{AreSides}
 use Rattle.ls_decide.specs.steps.Counting.{lists_counted, RowsKept, AreCounts, IsCounted, Adds}
 use Rattle.ls_decide.proofs.CutLemmas.{cut_plus, cut_times}
 use Rattle.ls_decide.proofs.CandidateLemmas.{rows_cut, part_cut}
-use Rattle.ls_decide.proofs.GatherLemmas.{same_at}
+use Rattle.ls_sides.proofs.GatherLemmas.{same_at}
 
 abbrev Entries : Type 0
 Entries = List (List ℕ × ℕ)

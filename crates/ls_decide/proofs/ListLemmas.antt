@@ -6,7 +6,7 @@ use Rattle.std.proofs.lemmas.List.Sums.{sum_by_push}
 use Rattle.std.proofs.lemmas.List.Folds.{list_any-append}
 use Rattle.ls_spec.specs.Specifier.{Specifier}
 use Rattle.ls_intern.specs.Places.{at, specifiers_at}
-use Rattle.ls_decide.proofs.GatherLemmas.{specifiers_last, specifiers_take}
+use Rattle.ls_sides.proofs.GatherLemmas.{specifiers_last, specifiers_take}
 
 fold_append : {X Y : Type 0} (f : Y → X → Y) (z : Y) (xs ys : List X) → fold f z (xs ++ ys) ≡ fold f (fold f z xs) ys
 fold_append f z [] ys = refl

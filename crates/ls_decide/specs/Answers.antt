@@ -24,6 +24,11 @@ IsPlainAnswer TooLarge = Unit {0}
 IsPlainAnswer (No o) = IsPlain (lisp_object o)
 IsPlainAnswer (Unsure o) = IsPlain (lisp_object o)
 
+-- it is not unsure: without predicates each answer is Yes, No or TooLarge
+abbrev pub IsSure : Answer → Type 0
+IsSure (Unsure o) = ⊥
+IsSure _ = Unit {0}
+
 -- the number is the cost, or there is none, exactly where the cost is more than the budget
 abbrev pub TellsCost : ℕ → ℕ → Option ℕ → Type 0
 TellsCost budget cost None = budget < cost

@@ -1,6 +1,6 @@
 -- How the cost is counted, for the contracts of private functions alone. No public contract rests on these definitions.
 pub mod Cut
 pub mod Nodes
-pub mod Gathering
 pub mod Weights
 pub mod Counting
+pub mod Comparing

@@ -9,15 +9,14 @@ ghost use Rattle.ls_lists.specs.Candidates.{is_predicate as is_predicate_atom, i
 ghost use Rattle.ls_lists.specs.Walks.{rows_with, part_with};
 ghost use Rattle.ls_intern.specs.Places.{at, specifiers_at, AllBelow};
 ghost use Rattle.ls_decide.specs.steps.Cut.{cut};
-ghost use Rattle.ls_decide.specs.steps.Gathering.{Gathers};
+ghost use Rattle.ls_sides.specs.Gathering.{Gathers};
 ghost use Rattle.ls_decide.specs.steps.Weights.{weight as weight_of};
 
 use crate::cut::{cut_at, least_of, plus, power, times};
-use crate::ids::Ids;
-use crate::node::{element, is_predicate, is_string, weight};
+use crate::node::{is_predicate, is_string, weight};
 use crate::shapes::shapes;
-use crate::sides::add;
 use ls_intern::{Id, Table};
+use ls_sides::{Ids, add, element};
 use std::alloc::{AllocError, Global};
 
 /// How many rows a list may have, and how many are tried for it, both cut.

@@ -11,14 +11,12 @@ ghost use Rattle.ls_lists.specs.Costs.{elements_in, element_lists, predicate_lis
 ghost use Rattle.ls_intern.specs.Places.{at, specifiers_at, AllBelow, Extends};
 ghost use Rattle.ls_decide.specs.Answers.{TellsCost};
 ghost use Rattle.ls_decide.specs.steps.Cut.{cut};
-ghost use Rattle.ls_decide.specs.steps.Gathering.{Gathers};
+ghost use Rattle.ls_sides.specs.Gathering.{Gathers};
 
 use crate::counting::Counting;
-use crate::ids::Ids;
-use crate::node::{branches, element, sides};
-use crate::sides::{add, distinct_of};
 use ls_intern::{Id, Table};
 use ls_object::{Code, TABLE_LEN};
+use ls_sides::{Ids, add, branches, cons_sides, distinct_of, element};
 use ls_spec::{Spec, of_code};
 use std::alloc::{AllocError, Global};
 
@@ -59,7 +57,7 @@ fn add_elements(table: &Table, id: Id, out: &mut Ids) -> Result<(), AllocError>
         add(table, element, out)?;
         return add_elements(table, element, out);
     }
-    if let Some((car, cdr)) = sides(node) {
+    if let Some((car, cdr)) = cons_sides(node) {
         add_elements(table, car, out)?;
         return add_elements(table, cdr, out);
     }

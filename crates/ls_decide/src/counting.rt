@@ -11,10 +11,10 @@ ghost use Rattle.ls_decide.specs.steps.Counting.{AreCounts, Counts, Adds};
 
 use crate::candidates::count_rows;
 use crate::cut::{plus, times};
-use crate::sides::sides_of;
 use ls_intern::{Id, Table};
 use ls_memo::Memo;
 use ls_object::Items;
+use ls_sides::sides_of;
 use std::alloc::{AllocError, Global};
 
 /// How many rows each list has that was counted, and what all of them add together, both cut.

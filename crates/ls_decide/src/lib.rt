@@ -4,14 +4,16 @@
 
 mod answer;
 mod candidates;
+mod compare;
 mod cost;
 mod counting;
 mod cut;
-mod ids;
+mod decide;
 mod node;
 mod session;
 mod shapes;
-mod sides;
+#[cfg(test)]
+mod tests;
 
 pub use answer::Answer;
 pub use session::Session;

@@ -1,39 +1,69 @@
 // A session.
 
-ghost use Rattle.std.specs.Prelude.{◌≡◌, ◌≤◌, ◌^◌, IfOk};
+ghost use Rattle.std.specs.Prelude.{◌≡◌, ◌≤◌, ◌<◌, ◌+◌, ◌-◌, ◌^◌, [], min, length, IfOk};
 ghost use Rattle.ls_spec.specs.Meaning.{specifier};
+ghost use Rattle.ls_spec.specs.Fits.{Fits};
 ghost use Rattle.ls_lists.specs.Costs.{pair_cost, type_cost};
-ghost use Rattle.ls_decide.specs.Answers.{TellsCost};
+ghost use Rattle.ls_cells.specs.Cells.{IsBuilt};
+ghost use Rattle.ls_cells.specs.Kept.{structures_in, entries_in, count_rows};
+ghost use Rattle.ls_decide.specs.Answers.{IsRight, IsPlainAnswer, IsSure, TellsCost};
+ghost use Rattle.ls_decide.specs.Sessions.{pair_list, Works, HasDone};
 
+use crate::answer::Answer;
 use crate::cost::{add_entries, cost_of_elements, cost_of_list, cost_of_predicates};
-use crate::sides::distinct_of;
+use crate::decide::decide;
+use ls_cells::Store;
 use ls_intern::Table;
+use ls_memo::Steps;
+use ls_sides::distinct_of;
 use ls_spec::Spec;
 use ls_structs::Tree;
 use std::alloc::{AllocError, Global};
 use std::marker::Model;
+use std::sync::ledger::Ledger;
 
-/// Decisions over one list of structure types. Contracts see that list.
+/// Decisions over one list of structure types. What was made for one is kept for the others. Contracts see the structure
+/// types, the specifiers that were asked about with their parts, and the lists for which rows are kept.
 #[derive(Drop)]
 pub struct Session {
     alloc: Global,
-    tree: Tree,
+    store: Store,
 }
 
 impl Model for Session {
-    ghost use Rattle.ls_object.specs.Universe.{Structures};
+    ghost use Rattle.std.specs.Coded.{codes};
+    ghost use Rattle.ls_intern.specs.Codes.{coded_specifier};
+    ghost use Rattle.ls_cells.specs.contracts.rows.Row as row;
+    ghost use Rattle.ls_cells.specs.Kept.{Stored};
 
-    ghost Value = { Structures };
+    ghost Value = { Stored };
 
-    ghost view = { λ s. s.tree };
+    ghost coded = { Prim.hlevel (codes, coded_specifier, row.the_row.coded) };
+
+    ghost view = { λ s. s.store };
 }
 
 impl Session {
-    /// A session over the structure types of the tree.
+    /// A session over the structure types of the tree, for which no rows are kept.
     pub fn new(alloc: Global, tree: Tree) -> Result<Session, AllocError>
-        ensures { IfOk result (λ s. s ≡ tree) }
+        ensures { IfOk result (λ s. s ≡ (tree, ([], []))) }
     {
-        Ok(Session { alloc, tree })
+        let store = Store::new(alloc, tree.parents().copy()?);
+        Ok(Session { alloc, store })
+    }
+
+    /// How many rows are kept, of all lists together; the greatest u64 where they are more.
+    pub fn rows(&self) -> u64
+        ensures { result ≡ min (count_rows (entries_in self.now)) (2 ^ 64 - 1) }
+    {
+        self.store.rows()
+    }
+
+    /// For how many lists rows are kept.
+    pub fn kept(&self) -> usize
+        ensures { result ≡ length (entries_in self.now) }
+    {
+        self.store.kept()
     }
 
     /// What it costs to decide whether every object of the first type belongs to the second (SUBTYPEP), or None exactly
@@ -74,5 +104,31 @@ impl Session {
         let id = table.add(s)?;
         let entries = add_entries(alloc, &mut table)?;
         cost_of_elements(alloc, &table, &[id], &entries, budget)
+    }
+
+    /// Whether every object of the first type belongs to the second (SUBTYPEP), or TooLarge exactly where that costs more
+    /// than the budget. It makes rows for the lists that it needs and for which none are kept, and no more than it costs.
+    /// An error comes for want of memory; the answers that follow are right all the same.
+    pub fn subtypep<L: Ledger>(
+        &mut self,
+        a: &Spec,
+        b: &Spec,
+        budget: u64,
+        steps: &mut Steps<L>,
+    ) -> Result<Answer, AllocError>
+        requires first { Fits (structures_in self.old) (specifier a.now) }
+        requires second { Fits (structures_in self.old) (specifier b.now) }
+        requires first_built { IsBuilt (specifier a.now) }
+        requires second_built { IsBuilt (specifier b.now) }
+        requires budget { budget ≤ 2 ^ 30 }
+        ensures structures { structures_in self.new ≡ structures_in self.old }
+        ensures right { IfOk result (IsRight (structures_in self.old) (specifier a.now) (specifier b.now) budget) }
+        ensures plain { IfOk result IsPlainAnswer }
+        ensures sure { IfOk result IsSure }
+        ensures works { Works (pair_list (specifier a.now) (specifier b.now)) (entries_in self.old) (entries_in self.new) steps.old steps.new }
+        ensures cost { steps.new ≤ steps.old + pair_cost (specifier a.now) (specifier b.now) }
+        ensures done { IfOk result (HasDone (pair_list (specifier a.now) (specifier b.now)) (entries_in self.old) (entries_in self.new) steps.old steps.new) }
+    {
+        decide(self.alloc, &mut self.store, a, b, budget, steps)
     }
 }

@@ -7,10 +7,10 @@ ghost use Rattle.ls_intern.specs.Places.{at, specifiers_at, AllBelow};
 ghost use Rattle.ls_decide.specs.steps.Cut.{cut};
 
 use crate::cut::{cut_at, plus, times};
-use crate::ids::Ids;
 use crate::node::{number_at, rank};
 use indexmap::IndexSet;
 use ls_intern::{Id, Table};
+use ls_sides::Ids;
 use std::alloc::{AllocError, Global};
 
 /// Puts in the rank that an atom names, if it isn't there.

@@ -15,6 +15,7 @@ use Rattle.subtypep_app.specs.Replies.{IsTold, IsReportOf, IsAnswered, RepliesTo
 use Rattle.subtypep_app.specs.Runs.{Outside, Wrote, IsEnded, HasReplied}
 use Rattle.subtypep_app.specs.Deciding.{AllDecided}
 use Rattle.subtypep_app.specs.Calm.{NoCallFailed, IsUnreadable, IsAnsweredOrRefused, IsComplete, DecidesAll, HasRun}
+use Rattle.subtypep_app.proofs.WordLemmas.{Means-one}
 use Rattle.subtypep_app.proofs.ToldLemmas.{IsTold-unique}
 use Rattle.subtypep_app.proofs.LineLemmas.{AllDecided-from_report}
 
@@ -22,7 +23,7 @@ use Rattle.subtypep_app.proofs.LineLemmas.{AllDecided-from_report}
 answer_of : (words : List (List ℕ)) (budget : ℕ) → Means words (Ask budget) → (text report : List ℕ) (status : Status)
     → (command : Command) × Means words command × RepliesTo command text status report → IsAnswered budget text status report
 answer_of words budget meant text report status (Ask other, means, right) =
-    subst (λ n. IsAnswered n text status report) (means.1 ∙ sym meant.1) right
+    subst (λ n. IsAnswered n text status report) (Means-one words other budget means meant) right
 
 -- a text that was read as forms is not unreadable
 read_not_refused : (left : Option (List ℕ)) (text read : List ℕ) (fs : List Datum) → left ≡ Some text → IsTold left read → length read ≤ limit → Forms read fs

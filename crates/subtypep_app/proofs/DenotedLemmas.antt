@@ -11,10 +11,13 @@ use Rattle.ls_env.specs.Environments.{Environment}
 use Rattle.ls_grammar.specs.BuiltinLevels.{built_atom}
 use Rattle.ls_grammar.specs.Denoting.{Denotes}
 use Rattle.ls_grammar.proofs.KeptLemmas.{OfKnown, IsKept, kept_in}
-use Rattle.subtypep_app.specs.steps.Built.{IsBuilt, AreBuilt}
+use Rattle.ls_cells.specs.Cells.{IsBuilt, AreBuilt}
 
 -- the built-in names that are built mean what is built
 atom-built : (at : Span) (b : Builtin) → OfKnown IsBuilt (built_atom at b)
+atom-built at name.Cons = (tt, tt)
+atom-built at name.Atom = (tt, tt)
+atom-built at name.List = (tt, ((tt, tt), tt))
 atom-built at name.Boolean = (tt, (tt, tt))
 atom-built at name.ExtendedChar = (tt, (tt, tt))
 atom-built at name.Bignum = (tt, (tt, tt))
@@ -39,6 +42,8 @@ built_is_kept = record {
   all = λ n. all-built;
   some = λ n. all-built;
   none = λ n s h. h;
+  any = λ n. tt;
+  pair = λ n a b g h. (g, h);
 }
 
 pub denoted-built : (env : Environment) (d : Datum) (s : Specifier) → Denotes env d s → IsBuilt s

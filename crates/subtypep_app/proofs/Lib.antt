@@ -1,12 +1,8 @@
 mod AppendLemmas
 mod WordLemmas
-mod BuiltLemmas
-mod AtomLemmas
-mod SearchLemmas
 mod DenotedLemmas
 mod LineLemmas
 mod ReportLemmas
 mod ToldLemmas
 mod EndingLemmas
 mod CalmLemmas
-mod DeciderLemmas

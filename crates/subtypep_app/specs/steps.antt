@@ -1,8 +1,5 @@
 -- What the code computes on the way, step by step. No public contract rests on it.
-pub mod Built
-pub mod Searching
 pub mod Asking
 pub mod Lines
 pub mod Reporting
 pub mod Finishing
-pub mod Deciding

@@ -1,35 +1,40 @@
-// The decision of a query under its budget.
+// The decision of queries under their budget.
 
-ghost use Rattle.std.specs.Prelude.{◌≡◌, ◌≤◌, ◌^◌, [], IfOk};
+ghost use Rattle.std.specs.Prelude.{◌≡◌, ◌≤◌, ◌^◌, IfOk};
 ghost use Rattle.ls_spec.specs.Meaning.{specifier};
+ghost use Rattle.ls_spec.specs.Fits.{Fits};
+ghost use Rattle.ls_cells.specs.Cells.{IsBuilt};
+ghost use Rattle.ls_cells.specs.Kept.{structures_in};
 ghost use Rattle.ls_decide.specs.Answers.{IsRight, IsPlainAnswer};
-ghost use Rattle.subtypep_app.specs.steps.Built.{IsDecidable};
 
-use crate::decide::decide;
 use ls_decide::{Answer, Session};
+use ls_memo::Steps;
 use ls_spec::Spec;
-use std::alloc::{AllocError, Global};
+use std::alloc::AllocError;
+use std::sync::ledger::Ledger;
 
-/// A session with the budget of each of its queries.
+/// A session for all queries of a file, with the budget of each of them and the steps that they make.
 #[derive(Drop)]
-pub(crate) struct Decider {
+pub(crate) struct Decider<L: Ledger> {
     pub session: Session,
+    pub steps: Steps<L>,
     pub budget: u64,
     pub ghost within: { budget ≤ 2 ^ 30 },
 }
 
-impl Decider {
+impl<L: Ledger> Decider<L> {
     /// The right answer to whether every object of the first type belongs to the second. A query whose cost is more
     /// than the budget is not worked on.
-    pub(crate) fn answer(&self, alloc: Global, a: &Spec, b: &Spec) -> Result<Answer, AllocError>
-        requires first { IsDecidable (specifier a.now) }
-        requires second { IsDecidable (specifier b.now) }
-        ensures right { IfOk result (IsRight [] (specifier a.now) (specifier b.now) self.now.budget) }
+    pub(crate) fn answer(&mut self, a: &Spec, b: &Spec) -> Result<Answer, AllocError>
+        requires first { Fits (structures_in self.old.session) (specifier a.now) }
+        requires second { Fits (structures_in self.old.session) (specifier b.now) }
+        requires first_built { IsBuilt (specifier a.now) }
+        requires second_built { IsBuilt (specifier b.now) }
+        ensures budget { self.new.budget ≡ self.old.budget }
+        ensures structures { structures_in self.new.session ≡ structures_in self.old.session }
+        ensures right { IfOk result (IsRight (structures_in self.old.session) (specifier a.now) (specifier b.now) self.old.budget) }
         ensures plain { IfOk result IsPlainAnswer }
     {
-        match self.session.cost(a, b, self.budget)? {
-            Some(_) => Ok(decide(alloc, a, b)?),
-            None => Ok(Answer::TooLarge),
-        }
+        self.session.subtypep(a, b, self.budget, &mut self.steps)
     }
 }

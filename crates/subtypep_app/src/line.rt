@@ -1,6 +1,7 @@
 // The line that answers a query.
 
-ghost use Rattle.std.specs.Prelude.{◌≡◌, ◌≤◌, [], IfOk};
+ghost use Rattle.std.specs.Prelude.{◌≡◌, IfOk};
+ghost use Rattle.ls_cells.specs.Kept.{structures_in};
 ghost use Rattle.subtypep_app.specs.Queries.{inclusion};
 ghost use Rattle.subtypep_app.specs.Report.{IsRightLine, IsLineOf, is_finding};
 ghost use Rattle.subtypep_app.specs.steps.Asking.{line_of_stop};
@@ -13,6 +14,7 @@ use ls_env::{Env, Query};
 use ls_grammar::{Refusal, Stop, resolve};
 use ls_reader::Datum;
 use std::alloc::{AllocError, Global};
+use std::sync::ledger::Ledger;
 
 /// What is written for a query.
 #[derive(Drop)]
@@ -47,15 +49,17 @@ fn stopped_line(stop: Stop) -> Result<Line, AllocError>
 }
 
 /// The line on whether the type of the first datum is included in that of the second.
-fn inclusion_line(
+fn inclusion_line<L: Ledger>(
     alloc: Global,
     env: &Env,
-    decider: &Decider,
+    decider: &mut Decider<L>,
     first: &Datum,
     second: &Datum,
 ) -> Result<Line, AllocError>
-    requires structures { env.now.structures ≡ [] }
-    ensures right { IfOk result (IsRightLine decider.now.budget env.now (inclusion first.now second.now)) }
+    requires structures { structures_in decider.old.session ≡ env.now.structures }
+    ensures budget { decider.new.budget ≡ decider.old.budget }
+    ensures structures { structures_in decider.new.session ≡ structures_in decider.old.session }
+    ensures right { IfOk result (IsRightLine decider.old.budget env.now (inclusion first.now second.now)) }
     ensures plain { IfOk result IsPlainLine }
 {
     let a = match resolve(alloc, env, first) {
@@ -66,18 +70,20 @@ fn inclusion_line(
         Ok(spec) => spec,
         Err(stop) => return stopped_line(stop),
     };
-    Ok(Line::Answered(decider.answer(alloc, &a, &b)?))
+    Ok(Line::Answered(decider.answer(&a, &b)?))
 }
 
 /// A right line for a query.
-pub(crate) fn line_of(
+pub(crate) fn line_of<L: Ledger>(
     alloc: Global,
     env: &Env,
-    decider: &Decider,
+    decider: &mut Decider<L>,
     query: &Query,
 ) -> Result<Line, AllocError>
-    requires structures { env.now.structures ≡ [] }
-    ensures right { IfOk result (IsLineOf decider.now.budget env.now query.now) }
+    requires structures { structures_in decider.old.session ≡ env.now.structures }
+    ensures budget { decider.new.budget ≡ decider.old.budget }
+    ensures structures { structures_in decider.new.session ≡ structures_in decider.old.session }
+    ensures right { IfOk result (IsLineOf decider.old.budget env.now query.now) }
     ensures plain { IfOk result IsPlainLine }
 {
     match question_of(query) {

@@ -10,7 +10,6 @@ mod words;
 mod query;
 
 // The answer to a query.
-mod decide;
 mod decider;
 
 // The line of a query and its text, and the report of a text.

@@ -1,8 +1,9 @@
 // The report on a text.
 
-ghost use Rattle.std.specs.Prelude.{◌≡◌, ◌≤◌, ◌++◌, ◌^◌, [], length, IfOk, OnOk};
+ghost use Rattle.std.specs.Prelude.{◌≡◌, ◌<◌, ◌≤◌, ◌++◌, ◌^◌, [], length, IfOk, OnOk};
 ghost use Rattle.std.specs.Str.{IsAscii};
 ghost use Rattle.ls_io.specs.Moves.{limit};
+ghost use Rattle.ls_cells.specs.Kept.{structures_in};
 ghost use Rattle.subtypep_app.specs.Replies.{IsAnswered};
 ghost use Rattle.subtypep_app.specs.Report.{AreReported, IsLineOf, IsReport, fault_body, fault_text, is_finding, line_text, place_text};
 ghost use Rattle.subtypep_app.specs.steps.Reporting.{LineAppended, status_for};
@@ -13,10 +14,12 @@ use crate::status::Status;
 use crate::text::{push_line, push_place};
 use ls_decide::Session;
 use ls_env::{Env, Query};
+use ls_memo::Steps;
 use ls_object::{Items, Text};
 use ls_reader::{Datum, ReadError, Span, read_text};
-use ls_structs::Tree;
 use std::alloc::{AllocError, Global};
+use std::marker::Brand;
+use std::sync::ledger::{Blank, Ledger};
 
 /// A whole report, and the status that stands for it.
 #[derive(Drop)]
@@ -26,15 +29,17 @@ pub(crate) struct Report {
 }
 
 /// Appends the line of a query, and says whether the line is a finding.
-fn push_query(
+fn push_query<L: Ledger>(
     alloc: Global,
     env: &Env,
-    decider: &Decider,
+    decider: &mut Decider<L>,
     query: &Query,
     out: &mut Text,
 ) -> Result<bool, AllocError>
-    requires structures { env.now.structures ≡ [] }
-    ensures { IfOk result (LineAppended decider.now.budget env.now query.now out.old out.new) }
+    requires structures { structures_in decider.old.session ≡ env.now.structures }
+    ensures budget { decider.new.budget ≡ decider.old.budget }
+    ensures structures { structures_in decider.new.session ≡ structures_in decider.old.session }
+    ensures line { IfOk result (LineAppended decider.old.budget env.now query.now out.old out.new) }
 {
     let line = line_of(alloc, env, decider, query)?;
     push_line(out, query.form.span, &line)?;
@@ -42,16 +47,19 @@ fn push_query(
 }
 
 /// Appends a line for each of the queries, and says whether one of them is a finding.
-fn push_queries(
+fn push_queries<L: Ledger>(
     alloc: Global,
     env: &Env,
-    decider: &Decider,
+    decider: &mut Decider<L>,
     queries: &[Query],
     out: &mut Text,
 ) -> Result<bool, AllocError>
     requires empty { out.old ≡ [] }
-    requires structures { env.now.structures ≡ [] }
-    ensures { IfOk result (λ found. AreReported (IsLineOf decider.now.budget env.now) line_text is_finding queries.now found out.new) }
+    requires structures { structures_in decider.old.session ≡ env.now.structures }
+    ensures budget { decider.new.budget ≡ decider.old.budget }
+    ensures structures { structures_in decider.new.session ≡ structures_in decider.old.session }
+    ensures lines { IfOk result
+        (λ found. AreReported (IsLineOf decider.old.budget env.now) line_text is_finding queries.now found out.new) }
 {
     let mut found = false;
     for query in queries {
@@ -61,16 +69,36 @@ fn push_queries(
     Ok(found)
 }
 
-/// The report on the queries of a file, and whether one of its lines is a finding.
-fn report_on(alloc: Global, budget: u64, forms: &Items<Datum>) -> Result<(Text, bool), AllocError>
-    requires { budget ≤ 2 ^ 30 }
+/// The report on the queries of a file, and whether one of its lines is a finding. All queries are asked of one session;
+/// its steps are counted by a ledger of their own.
+fn report_on<L: Ledger>(
+    alloc: Global,
+    budget: u64,
+    forms: &Items<Datum>,
+    blank: Blank,
+) -> Result<(Text, bool), AllocError>
+    requires budget { budget ≤ 2 ^ 30 }
+    requires name { blank.name ≡ L.name }
+    requires parts { blank.parts ≡ L.parts }
+    requires some { 0 < L.parts }
     ensures { IfOk result (λ made. IsReport budget forms.now made.1 made.0) }
 {
     let env = Env::of_file(alloc, forms)?;
-    let session = Session::new(alloc, Tree::new(alloc))?;
-    let decider = Decider { session, budget };
+    let session = Session::new(alloc, env.tree().copy()?)?;
+    let steps = Steps::<L>::new(blank);
+    let mut decider = Decider {
+        session,
+        steps,
+        budget,
+    };
     let mut text = Text::of_ascii(alloc, "")?;
-    let found = push_queries(alloc, &env, &decider, env.queries().as_slice(), &mut text)?;
+    let found = push_queries(
+        alloc,
+        &env,
+        &mut decider,
+        env.queries().as_slice(),
+        &mut text,
+    )?;
     Ok((text, found))
 }
 
@@ -124,7 +152,7 @@ pub(crate) fn report_of(alloc: Global, budget: u64, text: &[u8]) -> Result<Repor
 {
     match read_text(alloc, text) {
         Ok(forms) => {
-            let (text, found) = report_on(alloc, budget, &forms)?;
+            let (text, found) = report_on::<Brand>(alloc, budget, &forms, Blank::new(1))?;
             let status = status_for(found);
             Ok(Report { text, status })
         }

@@ -166,6 +166,142 @@ fn texts_are_answered(rt: HostRuntime) -> Result<(), Fail> {
     Ok(())
 }
 
+/// Texts about conses, without a refusal.
+const CONSES: [Row<'static>; 16] = [
+    (b"(subtypep '(cons nil t) nil)", b"1:1 T\n"),
+    (
+        b"(subtypep '(cons t (cons t t)) '(cons t list))",
+        b"1:1 T\n",
+    ),
+    (b"(subtypep 'cons 'list)", b"1:1 T\n"),
+    (b"(subtypep 'atom '(not (cons * *)))", b"1:1 T\n"),
+    (b"(subtypep 'list '(or cons boolean))", b"1:1 T\n"),
+    (PRODUCTS, b"1:1 T\n"),
+    (
+        b"(subtypep '(cons (member 1 2) (member 3 4)) '(or (cons (eql 1) t) (cons t (eql 3))))",
+        b"1:1 NIL WITNESS (2 . 4)\n",
+    ),
+    // Lisps that are in use answer the rest of these wrongly, or die of them.
+    (
+        b"(subtypep nil '(or (cons bit) (cons (not symbol) bit) (cons keyword)))",
+        b"1:1 T\n",
+    ),
+    (
+        b"(subtypep '(cons keyword) '(or (cons bit) (cons (not symbol) bit) (cons keyword)))",
+        b"1:1 T\n",
+    ),
+    (
+        b"(subtypep '(cons (member a 1)) '(or (cons null) (cons (not bit) bit) (cons (member a 1))))",
+        b"1:1 T\n",
+    ),
+    (
+        b"(subtypep '(cons (or bit symbol) null) '(or (cons bit) (cons symbol)))",
+        b"1:1 T\n",
+    ),
+    (
+        b"(subtypep '(and (cons bit) (cons symbol)) nil)",
+        b"1:1 T\n",
+    ),
+    (b"(subtypep '(cons t (and integer symbol)) nil)", b"1:1 T\n"),
+    (b"(subtypep '(not (cons t t)) 'atom)", b"1:1 T\n"),
+    (
+        b"(subtypep '(and cons (not (cons (eql 1) t))) '(cons (not (eql 1)) t))",
+        b"1:1 T\n",
+    ),
+    (
+        b"(subtypep '(cons (eql :a) (cons (eql 2) null)) '(cons symbol (cons (eql 2) (not null))))",
+        b"1:1 NIL WITNESS (:A 2)\n",
+    ),
+];
+
+#[test]
+fn conses_are_decided(rt: HostRuntime) -> Result<(), Fail> {
+    for (text, report) in CONSES {
+        let got = outcome_of(rt.alloc(), &Case::ask(text))?;
+        assert_eq!(rt; got.bytes.as_slice(), report);
+        assert_eq!(rt; got.status, Status::Clean);
+    }
+    Ok(())
+}
+
+/// A cons whose cdr is a cons with a car other than 1: which one is free.
+#[test]
+fn a_list_is_not_included_in_those_that_begin_with_1(rt: HostRuntime) -> Result<(), Fail> {
+    let text = b"(subtypep '(cons t list) '(cons t (or (eql nil) (cons (eql 1) t))))";
+    let got = outcome_of(rt.alloc(), &Case::ask(text))?;
+    assert!(rt; got.bytes.starts_with(b"1:1 NIL WITNESS ("));
+    assert!(rt; !got.bytes.starts_with(b"1:1 NIL WITNESS (1)"));
+    assert_eq!(rt; got.status, Status::Clean);
+    Ok(())
+}
+
+/// A product of unions and the union of the products.
+const PRODUCTS: &[u8] =
+    b"(subtypep '(cons (or integer symbol) (or integer symbol)) '(or (cons integer integer) (cons integer symbol) (cons symbol integer) (cons symbol symbol)))";
+
+/// What a query is answered within a budget.
+const BUDGETS: [(&str, &[u8], &[u8], Status); 6] = [
+    ("66", PRODUCTS, b"1:1 TOO-LARGE\n", Status::Found),
+    ("67", PRODUCTS, b"1:1 T\n", Status::Clean),
+    (
+        "34",
+        b"(subtypep 'integer 'rational)",
+        b"1:1 TOO-LARGE\n",
+        Status::Found,
+    ),
+    (
+        "35",
+        b"(subtypep 'integer 'rational)",
+        b"1:1 T\n",
+        Status::Clean,
+    ),
+    ("1073741824", RANGES, RANGES_REPORT, Status::Clean),
+    // Another query before it changes no answer.
+    (
+        "40",
+        b"(subtypep '(eql 7) 'symbol)(subtypep '(cons integer integer) '(cons integer))(subtypep 'integer 'integer)(subtypep '(eql 7) 'symbol)",
+        b"1:1 NIL WITNESS 7\n1:28 TOO-LARGE\n1:78 T\n1:106 NIL WITNESS 7\n",
+        Status::Found,
+    ),
+];
+
+#[test]
+fn the_budget_bounds_each_query(rt: HostRuntime) -> Result<(), Fail> {
+    for (budget, text, report, status) in BUDGETS {
+        let words = ["ask", "--budget", budget];
+        let got = outcome_of(rt.alloc(), &Case::new(&words, text))?;
+        assert_eq!(rt; got.bytes.as_slice(), report);
+        assert_eq!(rt; got.status, status);
+    }
+    Ok(())
+}
+
+/// Whether the OR of so many conses with keywords as their cars is included in the conses of a keyword and a list.
+fn tagged(alloc: Global, count: u32) -> Result<String, AllocError> {
+    let mut text = String::from_str(alloc, "(subtypep '(or")?;
+    for n in 0..count {
+        write!(
+            text,
+            " (cons (eql :k{n}) (cons integer (cons symbol null)))"
+        )?;
+    }
+    text.push_str(") '(cons keyword list))")?;
+    Ok(text)
+}
+
+/// The pair has 64 atoms, and so has the list of its cars: a word of bits more.
+#[test]
+fn a_large_union_of_conses_costs_3993(rt: HostRuntime) -> Result<(), Fail> {
+    let text = tagged(rt.alloc(), 63)?;
+    let rows: [(&str, &[u8]); 2] = [("3992", b"1:1 TOO-LARGE\n"), ("3993", b"1:1 T\n")];
+    for (budget, report) in rows {
+        let words = ["ask", "--budget", budget];
+        let got = outcome_of(rt.alloc(), &Case::new(&words, text.as_bytes()))?;
+        assert_eq!(rt; got.bytes.as_slice(), report, "within {budget}");
+    }
+    Ok(())
+}
+
 /// Texts with a refused query, and their lines.
 const REFUSED: [Row<'static>; 24] = [
     (
@@ -201,7 +337,7 @@ const REFUSED: [Row<'static>; 24] = [
         b"1:1 REFUSED BAD-ARGUMENT 1:12\n",
     ),
     (
-        b"(subtypep 'cons 'integer)",
+        b"(subtypep 'sequence 'integer)",
         b"1:1 REFUSED NOT-BUILT 1:12\n",
     ),
     (
@@ -216,7 +352,7 @@ const REFUSED: [Row<'static>; 24] = [
     (b"(subtypep 't :a)", b"1:1 REFUSED NOT-BUILT 1:14\n"),
     // The refusal of the first type comes first.
     (
-        b"(subtypep 'cons '(float 1))",
+        b"(subtypep 'vector '(float 1))",
         b"1:1 REFUSED NOT-BUILT 1:12\n",
     ),
     // An argument that is not quoted comes before it.
@@ -356,12 +492,18 @@ fn t_is_not_included_in_nil(rt: HostRuntime) -> Result<(), Fail> {
 
 #[test]
 fn words_without_a_meaning_leave_the_text_unread(rt: HostRuntime) -> Result<(), Fail> {
-    let lists: [&[&str]; 5] = [
+    let lists: [&[&str]; 11] = [
         &[],
         &["check"],
         &["ASK"],
         &["ask", "ask"],
+        &["ask", "--budget"],
         &["ask", "--budget", "0"],
+        &["ask", "--budget", "035"],
+        &["ask", "--budget", "+35"],
+        &["ask", "--budget", "1073741825"],
+        &["ask", "35", "--budget"],
+        &["ask", "--budget", "35", "35"],
     ];
     for words in lists {
         let got = outcome_of(rt.alloc(), &Case::new(words, RANGES))?;

@@ -5,25 +5,6 @@ use Rattle.ls_spec.specs.declared.spec.DimPattern.TheVariants as dimensions
 use Rattle.ls_intern.specs.declared.node.Node.{Node}
 use Rattle.ls_intern.specs.declared.node.Node.TheVariants as node
 
--- what T, NIL, AND, OR or NOT is made of, and nothing for an atom
-abbrev pub node_branches : Node → Option (List ℕ)
-node_branches node.All = Some []
-node_branches node.Nothing = Some []
-node_branches (node.And ids) = Some ids
-node_branches (node.Or ids) = Some ids
-node_branches (node.Not id) = Some (id ∷ [])
-node_branches _ = None
-
--- the car and the cdr of a CONS
-abbrev pub node_sides : Node → Option (ℕ × ℕ)
-node_sides (node.ConsOf car cdr) = Some (car, cdr)
-node_sides _ = None
-
--- the element specifier that an array names
-abbrev pub node_element : Node → Option ℕ
-node_element (node.ArrayOf e simple dims) = e
-node_element _ = None
-
 abbrev pub node_is_predicate : Node → Bool
 node_is_predicate (node.Satisfies p) = true
 node_is_predicate _ = false

@@ -1,4 +1,4 @@
-use Rattle.ls_decide.proofs.GatherLemmas.{below_at}
+use Rattle.ls_sides.proofs.GatherLemmas.{below_at}
 use Rattle.ls_decide.proofs.candidates.count_predicates.Goals as goal
 
 pub predicate_at-requires : goal.predicate_at-requires

@@ -1,6 +1,6 @@
 use Rattle.std.proofs.Common.{arith}
 use Rattle.ls_lists.specs.Candidates.{element_of}
-use Rattle.ls_decide.proofs.GatherLemmas.{below_at, gathers_whole}
+use Rattle.ls_sides.proofs.GatherLemmas.{below_at, gathers_whole}
 use Rattle.ls_decide.proofs.candidates.elements.Goals as goal
 
 pub add_element-requires-clause-id : goal.add_element-requires-clause-id

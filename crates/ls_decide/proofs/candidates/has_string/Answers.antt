@@ -1,7 +1,7 @@
 use Rattle.std.proofs.Common.{sym, ◌∙◌}
 use Rattle.ls_lists.specs.Candidates.{is_string}
 use Rattle.ls_decide.proofs.ListLemmas.{any_yes}
-use Rattle.ls_decide.proofs.GatherLemmas.{below_at}
+use Rattle.ls_sides.proofs.GatherLemmas.{below_at}
 use Rattle.ls_decide.proofs.candidates.has_string.Goals as goal
 
 pub string_at-requires : goal.string_at-requires

@@ -1,4 +1,4 @@
-use Rattle.ls_decide.proofs.GatherLemmas.{below_at}
+use Rattle.ls_sides.proofs.GatherLemmas.{below_at}
 use Rattle.ls_decide.proofs.candidates.weigh.Goals as goal
 
 pub weight_at-requires : goal.weight_at-requires

@@ -1,7 +1,7 @@
 use Rattle.std.proofs.Common.{take}
 use Rattle.ls_lists.specs.Costs.{elements_in}
-use Rattle.ls_decide.specs.steps.Gathering.{Gathers}
-use Rattle.ls_decide.proofs.GatherLemmas.{wants}
+use Rattle.ls_sides.specs.Gathering.{Gathers}
+use Rattle.ls_sides.proofs.GatherLemmas.{wants}
 use Rattle.ls_decide.proofs.cost.+add_elements.Given as goal
 
 abbrev pub decreases-add_elements : goal.decreases-add_elements

@@ -4,7 +4,7 @@ use Rattle.ls_spec.specs.Distinct.{distinct}
 use Rattle.ls_lists.specs.Walks.{sum}
 use Rattle.ls_intern.specs.Places.{specifiers_at}
 use Rattle.ls_decide.specs.Answers.{TellsCost}
-use Rattle.ls_decide.proofs.GatherLemmas.{below_at}
+use Rattle.ls_sides.proofs.GatherLemmas.{below_at}
 use Rattle.ls_decide.proofs.CostLemmas.{more_pass, index_at}
 use Rattle.ls_decide.proofs.cost.cost_with_entries.Goals as goal
 

@@ -1,6 +1,6 @@
 use Rattle.std.proofs.Common.{arith}
 use Rattle.ls_lists.specs.Costs.{elements_in}
-use Rattle.ls_decide.proofs.GatherLemmas.{below_at, gathers_whole}
+use Rattle.ls_sides.proofs.GatherLemmas.{below_at, gathers_whole}
 use Rattle.ls_decide.proofs.cost.elements_of.Goals as goal
 
 pub add_elements-requires-clause-id : goal.add_elements-requires-clause-id

@@ -1,6 +1,6 @@
 use Rattle.std.proofs.Common.{sym, subst}
 use Rattle.ls_intern.specs.Places.{AllBelow}
-use Rattle.ls_decide.proofs.GatherLemmas.{below_last}
+use Rattle.ls_sides.proofs.GatherLemmas.{below_last}
 use Rattle.ls_decide.proofs.shapes.add_of_rank.Goals as goal
 
 pub returns-then-has_rank-clause-below : goal.returns-then-has_rank-clause-below

@@ -1,4 +1,4 @@
-use Rattle.ls_decide.proofs.GatherLemmas.{below_at}
+use Rattle.ls_sides.proofs.GatherLemmas.{below_at}
 use Rattle.ls_decide.proofs.shapes.count_numbers.Goals as goal
 
 pub add_number-requires : goal.add_number-requires

@@ -1,4 +1,4 @@
-use Rattle.ls_decide.proofs.GatherLemmas.{below_at}
+use Rattle.ls_sides.proofs.GatherLemmas.{below_at}
 use Rattle.ls_decide.proofs.shapes.ranks.Goals as goal
 
 pub add_rank-requires : goal.add_rank-requires

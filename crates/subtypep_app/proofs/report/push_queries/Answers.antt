@@ -1,11 +1,15 @@
-use Rattle.std.proofs.Common.{◌≡◌, ◌||◌, subst, arith}
+use Rattle.std.proofs.Common.{◌≡◌, ◌||◌, ◌∙◌, subst, arith}
 use Rattle.subtypep_app.specs.steps.Reporting.{LineAppended}
 use Rattle.subtypep_app.proofs.ReportLemmas.{AreReported-appended}
 use Rattle.subtypep_app.proofs.report.push_queries.Goals as goal
 
 pub loop-query-preserved : goal.loop-query-preserved
-loop-query-preserved c =
+loop-query-preserved g c =
     let is : c.if-found.found ≡ (c.loop-query.found || c.in_ok-finding.finding) = grind arith in
-    AreReported-appended c.args.decider.now.budget c.args.env.now c.args.queries.now c.loop-query.query-index c.query-item.result c.loop-query.found c.in_ok-finding.finding c.if-found.found c.loop-query.out c.push_query.new.out
-    c.loop-query-test.true c.loop-query.invariant
-    (subst (λ q. LineAppended c.args.decider.now.budget c.args.env.now q c.loop-query.out c.push_query.new.out c.in_ok-finding.finding) c.query-item.is c.in_ok-finding.ensures) is
+    let appended = subst (λ budget. LineAppended budget c.args.env.now c.query-item.result c.loop-query.out c.push_query.new.out c.in_ok-finding.finding) c.loop-query.invariant.0 c.in_ok-finding.ensures.line in (
+      c.push_query.ensures.budget ∙ c.loop-query.invariant.0,
+      c.push_query.ensures.structures ∙ c.loop-query.invariant.1,
+      AreReported-appended c.args.decider.now.budget c.args.env.now c.args.queries.now c.loop-query.query-index c.query-item.result c.loop-query.found c.in_ok-finding.finding c.if-found.found c.loop-query.out c.push_query.new.out
+          c.loop-query-test.true c.loop-query.invariant.2
+          (subst (λ q. LineAppended c.args.decider.now.budget c.args.env.now q c.loop-query.out c.push_query.new.out c.in_ok-finding.finding) c.query-item.is appended) is,
+    )

@@ -1,0 +1,97 @@
+-- What holds of the list of a pair of types holds of both, and the other way round.
+use Rattle.std.proofs.Common.{◌≡◌, ℕ, suc, ◌<◌, ◌≤◌, refl, ap, sym, subst, ◌∙◌, Bool, true, false, List, [], ◌∷◌, ◌++◌, length, if◌then◌else◌, arith, All}
+use Rattle.std.specs.List.{AllByRecursion, Contains, list_any}
+use Rattle.std.proofs.lemmas.List.Elements.{All-from_recursion}
+use Rattle.ls_object.specs.Universe.{Structures}
+use Rattle.ls_object.specs.Inclusion.{IsInclusionOrder}
+use Rattle.ls_spec.specs.Specifier.{Specifier}
+use Rattle.ls_spec.specs.Meaning.{specifiers_of}
+use Rattle.ls_spec.specs.Atoms.{leaves, leaves_of_all, atoms_of}
+use Rattle.ls_spec.specs.Distinct.{same, distinct}
+use Rattle.ls_spec.specs.Truth.{Learnt, IsLearnt}
+use Rattle.ls_spec.proofs.AlikeLemmas.{AllByRecursion-front, AllByRecursion-back}
+use Rattle.ls_spec.proofs.DistinctLemmas.{all_from_distinct, all_of_distinct}
+use Rattle.ls_spec.proofs.ListLemmas.{AllByRecursion-weaker}
+use Rattle.ls_lists.specs.Costs.{pair_cost}
+use Rattle.ls_intern.specs.Places.{at, specifiers_at}
+use Rattle.ls_cells.specs.declared.cells.Cells.{Cells}
+use Rattle.ls_cells.specs.Cells.{IsBuilt, AreRowsOf}
+use Rattle.ls_cells.specs.Kept.{AreCellsOf}
+use Rattle.ls_cells.proofs.DescentLemmas.{built_atoms, names_learnt, names_are_all}
+use Rattle.ls_decide.specs.declared.answer.Answer.{Answer}
+use Rattle.ls_decide.specs.declared.answer.Answer.TheVariants.{Yes, No, Unsure, TooLarge}
+use Rattle.ls_decide.specs.Answers.{IsRight}
+use Rattle.ls_decide.specs.Sessions.{pair_list}
+use Rattle.ls_decide.specs.steps.Comparing.{IsOver, IsRightWithin}
+
+there : {X : Type 0} (x y : X) (xs : List X) → Contains xs x → Contains (y ∷ xs) x
+there x y xs c = (suc c.0, omega (arith, c.1), c.2)
+
+each_itself : (xs : List Specifier) → AllByRecursion (Contains xs) xs
+each_itself [] = tt
+each_itself (x ∷ xs) = ((0, omega arith, refl), AllByRecursion-weaker (Contains xs) (Contains (x ∷ xs)) (λ y c. there y x xs c) xs (each_itself xs))
+
+-- each leaf of a list is one of its atoms
+leaves_among : (list : List Specifier) → AllByRecursion (Contains (atoms_of list)) (leaves_of_all (specifiers_of list))
+leaves_among list = all_from_distinct (Contains (atoms_of list)) (leaves_of_all (specifiers_of list)) (each_itself (atoms_of list))
+
+by_specifier : (P : Specifier → Type 0) (list : List Specifier) → AllByRecursion P (leaves_of_all (specifiers_of list)) → AllByRecursion (λ s. AllByRecursion P (leaves s)) list
+by_specifier P [] h = tt
+by_specifier P (s ∷ list) h = (
+  AllByRecursion-front P (leaves s) (leaves_of_all (specifiers_of list)) h,
+  by_specifier P list (AllByRecursion-back P (leaves s) (leaves_of_all (specifiers_of list)) h),
+)
+
+pair_by : (a b : Specifier) (x : Bool) → [] ≡ (if x then a ∷ [] else (a ∷ []) ++ b ∷ []) → ⊥
+pair_by a b true e = cc
+pair_by a b false e = cc
+
+-- the list of the pair, by its numbers in a table that was lent twice
+pub listed : (first_lent known second_lent : List Specifier) (ids slice : List ℕ) (one other : ℕ) (a b : Specifier) → first_lent ≡ known → second_lent ≡ known → slice ≡ ids
+    → specifiers_at first_lent ids ≡ distinct (at first_lent one ∷ specifiers_at first_lent (other ∷ [])) → specifiers_at known (one ∷ other ∷ []) ≡ a ∷ b ∷ []
+    → specifiers_at second_lent slice ≡ pair_list a b
+listed first_lent known second_lent ids slice one other a b e f s are both =
+    ap (λ (k : List Specifier). specifiers_at k slice) f ∙ ap (specifiers_at known) s ∙ ap (λ (k : List Specifier). specifiers_at k ids) (sym e) ∙ are
+    ∙ ap (λ (k : List Specifier). distinct (specifiers_at k (one ∷ other ∷ []))) e ∙ ap distinct both
+
+module _ (known : List Specifier) (ids : List ℕ) (a b : Specifier) (pair : specifiers_at known ids ≡ pair_list a b) where
+  -- what holds of both holds of each of the list
+  pub pair_all : (P : Specifier → Type 0) → P a → P b → All P (specifiers_at known ids)
+  pair_all P p q = subst (All P) (sym pair) (All-from_recursion P (pair_list a b) (all_of_distinct P (a ∷ b ∷ []) (p, (q, tt))))
+
+  -- the list has a specifier
+  pub pair_some : 0 < length ids
+  pair_some = some ids pair
+    where
+      some : (is : List ℕ) → specifiers_at known is ≡ pair_list a b → 0 < length is
+      some [] e = absurd (pair_by a b (list_any (same b) (a ∷ [])) e)
+      some (i ∷ is) e = omega arith
+
+  -- both are made of atoms of the list
+  pub pair_over : (atoms : List Specifier) → atoms ≡ atoms_of (specifiers_at known ids) → IsOver atoms a × IsOver atoms b
+  pair_over atoms e =
+      let is : atoms ≡ atoms_of (pair_list a b) = e ∙ ap atoms_of pair in
+      let each = by_specifier (Contains (atoms_of (pair_list a b))) (pair_list a b) (leaves_among (pair_list a b)) in
+      let both = all_from_distinct (λ s. AllByRecursion (Contains (atoms_of (pair_list a b))) (leaves s)) (a ∷ b ∷ []) each in
+      (subst (λ ls. IsOver ls a) (sym is) both.0, subst (λ ls. IsOver ls b) (sym is) both.1.0)
+
+  -- what is right where all is learnt is right
+  pub pair_right : (structures : Structures) → IsInclusionOrder structures → IsBuilt a → IsBuilt b → (cells : Cells) → AreCellsOf structures known (specifiers_at known ids) cells
+      → (answer : Answer)
+      → ((s : Structures) (learnt : Learnt) → IsLearnt s learnt a → IsLearnt s learnt b → AreRowsOf s learnt (specifiers_at known cells.atoms) cells.rows → IsRightWithin s a b answer)
+      → IsRightWithin structures a b answer
+  pair_right structures order a_built b_built cells are answer h =
+      let learnt = names_learnt structures in
+      let one = names_are_all structures (a ∷ []) order (All-from_recursion IsBuilt (a ∷ []) (a_built, tt)) in
+      let other = names_are_all structures (b ∷ []) order (All-from_recursion IsBuilt (b ∷ []) (b_built, tt)) in
+      let atoms = names_are_all structures (atoms_of (specifiers_at known ids)) order (built_atoms (specifiers_at known ids) (pair_all IsBuilt a_built b_built)) in
+      h structures learnt (one 0 a (omega arith)) (other 0 b (omega arith))
+      (subst (λ ls. AreRowsOf structures learnt ls cells.rows) (sym are.atoms_are) (are.right.are learnt atoms))
+
+-- where the cost is within the budget, what is right without one is right
+pub IsRight-within : (structures : Structures) (a b : Specifier) (budget : ℕ) (answer : Answer) → pair_cost a b ≤ budget
+    → IsRightWithin structures a b answer → IsRight structures a b budget answer
+IsRight-within structures a b budget TooLarge within right = absurd right
+IsRight-within structures a b budget Yes within right = (within, right)
+IsRight-within structures a b budget (No o) within right = (within, right)
+IsRight-within structures a b budget (Unsure o) within right = (within, right)

@@ -1,8 +1,0 @@
-use Rattle.std.proofs.Common.{take, []}
-use Rattle.ls_spec.specs.Atoms.{leaves}
-use Rattle.ls_decide.specs.steps.Gathering.{Gathers}
-use Rattle.ls_decide.proofs.GatherLemmas.{wants}
-use Rattle.ls_decide.proofs.sides.atoms_of.Given as goal
-
-abbrev pub invariant-loop-id : goal.invariant-loop-id
-invariant-loop-id l = Gathers l.table [] l.out (wants leaves l.table (take l.id-index l.list))

@@ -1,0 +1,23 @@
+use Rattle.std.proofs.Common.{◌≡◌, ℕ, ◌<◌, ◌≤◌, Ok, refl, ap, sym, ◌∙◌, subst, arith, true, false}
+use Rattle.std.specs.Prelude.{decimal}
+use Rattle.std.proofs.lemmas.Slice.Eq.{bytes_eq-Decides}
+use Rattle.subtypep_app.proofs.WordLemmas.{reads_budget}
+use Rattle.subtypep_app.proofs.words.budget_of.Goals.{then-number-eq0-via-then-number-eq0, then-number-eq0-via-else-number-eq0+then-number-gt-GREATEST_BUDGET, then-number-eq0-via-else-number-eq0+else-number-gt-GREATEST_BUDGET+then-not-is_decimal}
+use Rattle.subtypep_app.proofs.words.budget_of.Goals as goal
+
+-- the word is no number
+pub returns-in_default : goal.returns-in_default
+returns-in_default c = λ n is e. (let read = reads_budget c.args.word.now c.parse.result n c.parse.ensures.value.0 is e in cc)
+
+-- it is none that may be named, or is written otherwise
+pub returns-then-number-eq0 : goal.returns-then-number-eq0
+returns-then-number-eq0 c = λ n is e.
+    (let read = reads_budget c.args.word.now c.parse.result n c.parse.ensures.value.0 is e in
+    let same : c.in-Ok.number ≡ n = cc in
+    elim c.then-number-eq0.branch [
+      | then-number-eq0-via-then-number-eq0 w ↦ omega (arith, w.if-number-eq0.true, same, is.0)
+      | then-number-eq0-via-else-number-eq0+then-number-gt-GREATEST_BUDGET w ↦ omega (arith, w.if-number-gt-GREATEST_BUDGET.true, same, is.1)
+      | then-number-eq0-via-else-number-eq0+else-number-gt-GREATEST_BUDGET+then-not-is_decimal w ↦
+          (let written = w.is_decimal.ensures ∙ (bytes_eq-Decides c.args.word.now (decimal c.in-Ok.number)).1 (e ∙ ap decimal (sym same)) in
+          let not_written = w.if-not-is_decimal.true in cc)
+    ])
