@@ -19,7 +19,7 @@ answered="(subtypep 'bit 'integer)"
 
 echo "$answered" | "$program" ask >"$folder/out" 2>&1; code=$?
 ended 'an answered text' 0 '1:1 T'
-echo "(subtypep '(integer 5 *) 'bit)" | "$program" ask >"$folder/out" 2>&1; code=$?
+echo "(subtypep '(integer 5 5) 'bit)" | "$program" ask >"$folder/out" 2>&1; code=$?
 ended 'a text with a witness' 0 '1:1 NIL WITNESS 5'
 echo "(subtypep '(or integer *) t)" | "$program" ask >"$folder/out" 2>&1; code=$?
 ended 'a refused query' 1 '1:1 REFUSED STAR-NOT-ALLOWED 1:24'

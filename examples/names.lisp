@@ -12,4 +12,4 @@
 (subtypep '(or integer *) t)                                      ; => REFUSED STAR-NOT-ALLOWED
 (subtypep '(float 0.0 1.0) 'float)                                ; => REFUSED FLOAT-RANGE
 (subtypep '(integer 0 18446744073709551617) t)                    ; => REFUSED NUMBER-TOO-WIDE
-(subtypep '(cons integer) t)                                      ; => REFUSED NOT-BUILT
+(subtypep '(vector integer) t)                                    ; => REFUSED NOT-BUILT
