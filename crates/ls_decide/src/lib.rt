@@ -12,8 +12,6 @@ mod decide;
 mod node;
 mod session;
 mod shapes;
-#[cfg(test)]
-mod tests;
 
 pub use answer::Answer;
 pub use session::Session;

@@ -17,6 +17,3 @@ pub use argument::{Argument, quoted_in, value_of};
 pub use env::Env;
 pub use query::{Query, QueryKind};
 pub use status::NameStatus;
-
-#[cfg(test)]
-mod tests;

@@ -14,6 +14,3 @@ mod resolving;
 
 pub use refusal::{Refusal, RefusalKind, Stop};
 pub use resolving::{DEEPEST, ROOM, each_datum_resolves_or_is_refused, resolve};
-
-#[cfg(test)]
-mod tests;

@@ -19,8 +19,6 @@ mod mem_sink;
 
 // How calls and failures are counted.
 mod counts;
-#[cfg(test)]
-mod tests;
 
 pub use all::{LIMIT, ReadFault, read_all, write_all};
 pub use mem_sink::MemSink;

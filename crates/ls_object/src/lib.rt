@@ -32,6 +32,3 @@ pub use table::{
     UPGRADING_TABLE,
 };
 pub use text::Text;
-
-#[cfg(test)]
-mod tests;

@@ -19,6 +19,3 @@ pub use laws::{
 pub use numbers::NumberRegions;
 pub use structs::StructRegions;
 pub use symbols::SymbolRegions;
-
-#[cfg(test)]
-mod tests;

@@ -33,6 +33,3 @@ pub use datum::{Datum, FloatFormat, Form, Literal, Span};
 pub use fault::ReadError;
 pub use reader::{one_answer, read_text};
 pub use small::SmallRat;
-
-#[cfg(test)]
-mod tests;

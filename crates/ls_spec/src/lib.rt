@@ -15,8 +15,6 @@ mod limits;
 mod membership;
 mod regions;
 mod spec;
-#[cfg(test)]
-mod tests;
 
 pub use atom_list::atoms;
 pub use builtin::of_builtin;

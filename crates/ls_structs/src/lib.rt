@@ -4,6 +4,3 @@
 mod tree;
 
 pub use tree::Tree;
-
-#[cfg(test)]
-mod tests;

@@ -8,6 +8,3 @@ mod tags;
 pub use look_up::builtin;
 pub use name::Builtin;
 pub use tags::{TagSet, one_set_for_its_members};
-
-#[cfg(test)]
-mod tests;

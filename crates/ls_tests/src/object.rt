@@ -1,4 +1,4 @@
-use super::*;
+use ls_object::*;
 use std::alloc::AllocError;
 use std::cmp::Ordering;
 use std::test::*;

@@ -6,8 +6,8 @@ ghost use Rattle.ls_spec.specs.Fits.{IsSmall};
 ghost use Rattle.ls_spec.specs.Meaning.{specifier};
 ghost use Rattle.ls_points.specs.Classes.{IsFitAtom, IsFitAtomOf};
 
-use super::*;
 use ls_object::{Items, Kind, Object, Parents, Rat, Shape, Symbol, Text};
+use ls_points::*;
 use ls_spec::{
     Bound, CharClass, LARGEST_DENOMINATOR, LARGEST_NUMERATOR, Point, RangeKind, Regions, Spec,
     SymClass, is_included_within,

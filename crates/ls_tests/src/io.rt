@@ -1,4 +1,4 @@
-use super::{
+use ls_io::{
     LIMIT, MemSink, MemSource, ReadFault, Sink, Source, StdSink, StdSource, read_all, write_all,
 };
 use std::io;

@@ -1,5 +1,5 @@
-use super::*;
 use ls_env::Env;
+use ls_grammar::*;
 use ls_object::Rat;
 use ls_reader::read_text;
 use ls_spec::{Bound, Point, RangeKind, Spec};

@@ -1,6 +1,6 @@
 // What decisions cost. The numbers are worked out by hand from the definition of the cost.
 
-use crate::Session;
+use ls_decide::Session;
 use ls_object::{Boxed, Items, Symbol, Text};
 use ls_spec::{Bound, Point, RangeKind, Spec, SymClass};
 use ls_structs::Tree;

@@ -1,7 +1,7 @@
 // The built-in names, and each call on sets at the sizes that are used.
 
-use crate::{Builtin, TagSet, builtin};
 use ls_object::{Symbol, Text};
+use ls_tables::{Builtin, TagSet, builtin};
 use std::alloc::{AllocError, Global};
 use std::test::Fail;
 

@@ -5,11 +5,11 @@ ghost use Rattle.std.specs.Prelude.{IfOk};
 ghost use Rattle.ls_spec.specs.Meaning.{specifier};
 ghost use Rattle.ls_spec.specs.SelfContained.{IsSelfContained};
 
-use crate::{
+use ls_object::{Boxed, Code, Items, Object, Parents, Rat, Shape, Symbol, Text};
+use ls_spec::{
     Bound, CharClass, DimPattern, Point, RangeKind, Spec, SymClass, atoms, belongs,
     belongs_unmarked, of_code,
 };
-use ls_object::{Boxed, Code, Items, Object, Parents, Rat, Shape, Symbol, Text};
 use std::alloc::{AllocError, Global};
 use std::test::Fail;
 

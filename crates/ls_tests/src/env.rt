@@ -1,4 +1,4 @@
-use super::*;
+use ls_env::*;
 use ls_object::{Items, Symbol};
 use ls_reader::{Datum, read_text};
 use std::alloc::AllocError;

@@ -1,4 +1,4 @@
-use super::*;
+use ls_structs::*;
 use std::test::*;
 
 #[test]

@@ -1,4 +1,4 @@
-use super::*;
+use ls_reader::*;
 use sqlite_items::Items;
 use std::alloc::AllocError;
 use std::test::*;
