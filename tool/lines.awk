@@ -19,9 +19,23 @@ FILENAME == ARGV[2] {
     else { wanted[$1] = said; expectations++ }
     next
 }
-/^FAULT / { fault(); next }
-{ answered() }
+{ line = line == "" ? $0 : line "\n" $0 }
+# An end of line between bars belongs to the name of a symbol: the line goes on.
+bars(line) % 2 { next }
+{
+    $0 = line
+    line = ""
+    if ($1 == "FAULT") fault()
+    else answered()
+}
 END { print queries, findings, expectations, differences, lost > ENVIRON["COUNTS"] }
+
+# How many bars a line has that are not escaped.
+function bars(text) {
+    if (index(text, "|") == 0) return 0
+    gsub(/\\./, "", text)
+    return gsub(/\|/, "", text)
+}
 
 # A text for an annotation: what GitHub takes as an end is written by code.
 function coded(text, in_property) {
@@ -69,10 +83,10 @@ function answered(    said, found) {
     said = $0
     sub(/^[0-9]+:[0-9]+ /, "", said)
     found = $2 == "REFUSED" || $2 == "TOO-LARGE"
-    if (FNR in wanted) {
-        if (agrees(said, wanted[FNR])) return
+    if (queries in wanted) {
+        if (agrees(said, wanted[queries])) return
         differences++
-        tell("error", $1, "expected " wanted[FNR] ", answered " said)
+        tell("error", $1, "expected " wanted[queries] ", answered " said)
         return
     }
     if (found) findings++

@@ -7,11 +7,23 @@ BEGIN {
     words = "^;+[ \t]*=>[ \t]*(T|NIL|REFUSED|UNSURE|TOO-LARGE)([^A-Za-z0-9-]|$)"
 }
 part == 1 {
-    if ($1 ~ /^[0-9]+:[0-9]+$/) query[$1] = FNR
+    line = line == "" ? $0 : line "\n" $0
+    # An end of line between bars belongs to the name of a symbol: the line goes on.
+    if (bars(line) % 2) next
+    sub(/[ \n].*/, "", line)
+    query[line] = ++queries
+    line = ""
     next
 }
 { walk($0 "\n") }
 END { drop() }
+
+# How many bars a line has that are not escaped.
+function bars(text) {
+    if (index(text, "|") == 0) return 0
+    gsub(/\\./, "", text)
+    return gsub(/\|/, "", text)
+}
 
 # The comment's expectation, or nothing.
 function expectation(comment,    at, kind) {
