@@ -84,7 +84,13 @@ open.lisp:1:1: FAULT UNCLOSED
 open.lisp:1:1: note: what begins here does not end" 'selvdrik: missing.lisp: there is no such file'
 cp plain.lisp locked.lisp
 chmod 0 locked.lisp
-if [ -r locked.lisp ]; then
+if [ -r locked.lisp ] && command -v setpriv >/dev/null 2>&1 && chmod -R go+rX "$folder/home of it" "$folder/bin" &&
+    chmod go+rx "$folder" "$folder/files" && setpriv --reuid=65534 --clear-groups true 2>/dev/null; then
+    # The superuser may read every file; another user may not.
+    setpriv --reuid=65534 --clear-groups "$folder/selvdrik" locked.lisp >"$folder/out" 2>"$folder/err" </dev/null
+    code=$?
+    is 'a file that may not be read' 4 '' 'selvdrik: locked.lisp: it may not be read'
+elif [ -r locked.lisp ]; then
     echo 'wrapper: this user may read every file: the file that may not be read was left out'
 else
     ran locked.lisp; is 'a file that may not be read' 4 '' 'selvdrik: locked.lisp: it may not be read'

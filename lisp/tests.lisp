@@ -63,7 +63,7 @@
   (try '(((t t nil "T") (nil t 5 "NIL WITNESS 5") (nil nil :too-large "TOO-LARGE")))
        (decide-all '((nil nil) ((integer 5 5) (integer 6 6)) ((integer 5 5) (member 1 2 3 4 5 6))) :budget 40))
   ;; A name with an end of line in it, in a query and in a witness.
-  (let ((name (intern (format nil "two~%1:1 T |lines\\"))))
+  (let ((name (intern (format nil "two~%1:1 T |lines\\") '#:selvdrik/tests)))
     (try `(((nil t ,name ,(format nil "NIL WITNESS SELVDRIK/TESTS::|two~%1:1 T \\|lines\\\\|")) (t t nil "T")))
          (decide-all `(((eql ,name) integer) (bit integer)))))
   (try '(nil) (decide-all '()))
