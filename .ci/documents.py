@@ -4,15 +4,18 @@
     .ci/documents.py PROGRAM
 
 Checked are: the tables of docs/manual.md with the columns Text and Line; each command in an indented block of
-README.md and docs/manual.md that a block of output follows; the comments `; => ..` behind the queries of
-examples/*.lisp; that docs/architecture.md has the crates of crates.txt, in that order, each with the libraries
-that it stands on; and that each must-fail edit that README.md names is there.
+README.md and docs/manual.md that a block of output follows, and each over files, with its output or none; that the
+queries of README.md are those of examples/why.lisp; the comments `; => ..` behind the queries of examples/*.lisp; that docs/architecture.md has the crates of crates.txt, in that order, each with the libraries
+that it stands on; and that each must-fail edit that docs/proved.md names is there.
 """
 import glob
 import os
 import re
+import shlex
+import shutil
 import subprocess
 import sys
+import tempfile
 
 TOP = os.path.dirname(os.path.dirname(os.path.abspath(__file__)))
 
@@ -76,6 +79,37 @@ def command_faults(program, name):
                 yield f'{name}: {command.strip()} prints\n{got}and not\n{output}'
 
 
+def script_printed(program, command):
+    """What a command over the script prints, with the program beside it as it is installed."""
+    with tempfile.TemporaryDirectory() as home:
+        shutil.copy(program, os.path.join(home, 'subtypep_app'))
+        shutil.copy(os.path.join(TOP, 'selvdrik'), home)
+        shutil.copytree(os.path.join(TOP, 'tool'), os.path.join(home, 'tool'))
+        words = command.replace('./selvdrik', shlex.quote(os.path.join(home, 'selvdrik')), 1)
+        return subprocess.run(words, shell=True, cwd=TOP, stdout=subprocess.PIPE, check=False).stdout.decode()
+
+
+def script_faults(program, name):
+    """Commands over files: the block behind one is its output where it begins as lines of files do."""
+    found = blocks(read(name))
+    for command, output in zip(found, found[1:] + ['']):
+        if re.fullmatch(r'\./selvdrik [^<\n]*examples/[^<\n]*\n', command):
+            wanted = output if output.startswith('examples/') else ''
+            got = script_printed(program, command)
+            if got != wanted:
+                yield f'{name}: {command.strip()} prints\n{got}and not\n{wanted}'
+
+
+def why_faults():
+    there = read('examples/why.lisp')
+    asked = re.findall(r'(?m)^    (\(subtypep .*\))$', read('README.md'))
+    for query in asked:
+        if query not in there:
+            yield f'README.md: {query} is not in examples/why.lisp'
+    if not asked:
+        yield 'README.md: no query was found'
+
+
 def agrees(line, wanted):
     """Whether an answered line is of the wanted kind: which witness is printed is free."""
     said = line.split(' ', 1)[1]
@@ -111,16 +145,18 @@ def crate_faults():
 
 def edit_faults():
     there = {os.path.basename(path)[:-len('.edit')] for path in glob.glob(os.path.join(TOP, 'crates/*/must-fail/*.edit'))}
-    for row in rows(read('README.md'), ['Contract', 'What it says', 'Edits']):
+    for row in rows(read('docs/proved.md'), ['Contract', 'What it says', 'Edits']):
         for name in re.findall(r'`(\w+)`', row[2]):
             if name not in there:
-                yield f'README.md names the edit {name}, which is not there'
+                yield f'docs/proved.md names the edit {name}, which is not there'
 
 
 def faults(program):
     yield from table_faults(program, 'docs/manual.md')
     for name in ('README.md', 'docs/manual.md'):
         yield from command_faults(program, name)
+        yield from script_faults(program, name)
+    yield from why_faults()
     for name in sorted(os.listdir(os.path.join(TOP, 'examples'))):
         if name.endswith('.lisp'):
             yield from example_faults(program, 'examples/' + name)

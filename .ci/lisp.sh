@@ -26,12 +26,35 @@ cat >"$folder/test.lisp" <<'END'
                                   (format t "~A~%~A~%" (get-output-stream-string log) problem))))
             (let ((*standard-output* log))
               (funcall (intern "LOAD-SYSTEM" "ASDF") "selvdrik/tests"))))
-        (funcall (intern "RUN-TESTS" "SELVDRIK/TESTS")))
+        (let ((passed (funcall (intern "RUN-TESTS" "SELVDRIK/TESTS"))))
+          (load (merge-pathnames "page.lisp" *load-truename*))
+          (and (funcall 'examples-hold "docs/lisp.md") passed)))
     (error (problem) (format t "~A~%" problem) nil)))
 (finish-output)
 #+sbcl (sb-ext:exit :code (if *passed* 0 1) :abort t)
 #+clisp (ext:exit (if *passed* 0 1))
 #+ecl (ext:quit (if *passed* 0 1))
+END
+# The examples of the page: in its blocks, each form that a comment with its values follows.
+cat >"$folder/page.lisp" <<'END'
+(defun holds (form wanted)
+  (let ((got (let ((*print-pretty* nil))
+               (format nil "~{~S~^, ~}" (multiple-value-list (eval (read-from-string form)))))))
+    (or (string= got wanted)
+        (format t "~&lisp: ~A gives ~A~%" form got))))
+
+(defun examples-hold (page)
+  (with-open-file (stream page)
+    (loop with form = "" with count = 0 with hold = t
+          for line = (read-line stream nil)
+          while line
+          do (cond ((and (< 6 (length line)) (string= ";; => " line :end2 6))
+                    (incf count)
+                    (unless (eq (holds form (subseq line 6)) t) (setf hold nil))
+                    (setf form ""))
+                   ((and (< 2 (length line)) (string= "```" line :end2 3)) (setf form ""))
+                   (t (setf form (format nil "~A~%~A" form line))))
+          finally (return (and hold (< 3 count))))))
 END
 failed=0
 

@@ -70,7 +70,7 @@ system lies in; or the one on PATH."
     (when number
       (setf (aref answers number)
             (multiple-value-bind (yes sure third) (answer-of said)
-              (list yes sure third said))))))
+              (list yes sure third (without-place said)))))))
 
 (defun decide-all (pairs &key definitions budget)
   "Decides for each of PAIRS, lists (A B), whether the type A is included in the type B, in one process. The answer is a

@@ -105,3 +105,9 @@ COMMON-LISP-USER."
           ((string= (first words) "REFUSED") (values nil nil (keyword-of (second words))))
           ((starts-with "NIL UNSURE" said) (values nil nil :unsure))
           (t (values nil nil (keyword-of (first words)))))))
+
+(defun without-place (said)
+  "What a line SAID, without the place of a refusal, which is one in a text that nobody sees."
+  (if (starts-with "REFUSED " said)
+      (subseq said 0 (position #\Space said :from-end t))
+      said))
