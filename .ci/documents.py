@@ -5,7 +5,8 @@
 
 Checked are: the tables of docs/manual.md with the columns Text and Line; each command in an indented block of
 README.md and docs/manual.md that a block of output follows, and each over files, with its output or none; that the
-queries of README.md are those of examples/why.lisp; the comments `; => ..` behind the queries of examples/*.lisp; that docs/architecture.md has the crates of crates.txt, in that order, each with the libraries
+queries of README.md are those of examples/why.lisp; the comments `; => ..` behind the queries of examples/*.lisp;
+the right answers of bench/beside.lisp; that docs/architecture.md has the crates of crates.txt, in that order, each with the libraries
 that it stands on; and that each must-fail edit that docs/proved.md names is there.
 """
 import glob
@@ -110,6 +111,18 @@ def why_faults():
         yield 'README.md: no query was found'
 
 
+def beside_faults(program):
+    """The right answers of bench/beside.lisp, as far as the program decides."""
+    text = read('bench/beside.lisp')
+    wanted = re.findall(r'(?m)^;; right (T|NIL): ', text)
+    got = printed(program, ['ask'], text).splitlines()
+    if not wanted or len(wanted) != len(got):
+        yield f'bench/beside.lisp: {len(got)} lines for {len(wanted)} queries'
+    for line, want in zip(got, wanted):
+        if line.split()[1] in ('T', 'NIL') and not agrees(line, want):
+            yield f'bench/beside.lisp: {line}, and not {want}'
+
+
 def agrees(line, wanted):
     """Whether an answered line is of the wanted kind: which witness is printed is free."""
     said = line.split(' ', 1)[1]
@@ -160,6 +173,7 @@ def faults(program):
     for name in sorted(os.listdir(os.path.join(TOP, 'examples'))):
         if name.endswith('.lisp'):
             yield from example_faults(program, 'examples/' + name)
+    yield from beside_faults(program)
     yield from crate_faults()
     yield from edit_faults()
 

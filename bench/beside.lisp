@@ -167,10 +167,6 @@
 ;; SBCL T, CLISP T, ECL NIL
 (subtypep '(integer (0) (0)) nil)
 
-;; right T: 0 is no ratio
-;; SBCL NIL, CLISP T, ECL NIL
-(subtypep '(and ratio (rational 0)) '(rational (0)))
-
 ;; right T: 0 is an integer, all else of A is above 0 and below 1
 ;; SBCL T, CLISP T, ECL NIL
 (subtypep '(rational 0 1/2) '(or (integer * 2) (rational (0) (1))))
