@@ -98,7 +98,7 @@ fi
 "$folder/selvdrik" - <plain.lisp >"$folder/out" 2>"$folder/err"; code=$?
 is 'standard input by name' 0 '-:1:1: T
 -:2:1: NIL WITNESS 5' ''
-cat plain.lisp | "$folder/selvdrik" ask >"$folder/out" 2>"$folder/err"; code=$?
+"$folder/selvdrik" ask <plain.lisp >"$folder/out" 2>"$folder/err"; code=$?
 is 'standard input' 0 '1:1 T
 2:1 NIL WITNESS 5' ''
 "$folder/selvdrik" ask <&- >"$folder/out" 2>"$folder/err"; code=$?
@@ -243,7 +243,7 @@ fi
 cat >"$folder/rt/rt" <<'END'
 #!/bin/sh
 [ "$1" = lib ] && exit 0
-cp "$PROGRAM" out/subtypep_app
+mkdir -p out && cp "$PROGRAM" out/subtypep_app
 END
 PROGRAM=$program
 export PROGRAM
