@@ -197,6 +197,40 @@ else
     echo 'wrapper: python3 is missing: the counts on a terminal were left out'
 fi
 
+# Lines and statuses that this program does not bring about here: a stand-in says SAID and ends with ENDS.
+mkdir -p "$folder/other/tool" && cp "$top"/tool/* "$folder/other/tool/" && cp "$top/selvdrik" "$folder/other/" || exit 1
+printf '#!/bin/sh\ncat >/dev/null\nprintf "%%s" "$SAID"\nexit "$ENDS"\n' >"$folder/other/subtypep_app"
+chmod +x "$folder/other/subtypep_app"
+said() {
+    SAID=$1 ENDS=$2
+    export SAID ENDS
+    shift 2
+    "$folder/other/selvdrik" "$@" >"$folder/out" 2>"$folder/err" </dev/null
+    code=$?
+}
+printf '(a) ; => UNSURE\n(b) ; => UNSURE\n(c) ; => NIL\n(d) ; => NIL\n(e) ; => T\n' >said.lisp
+said '1:1 NIL UNSURE 5
+2:1 UNSURE
+3:1 NIL
+4:1 NIL UNSURE 5
+5:1 UNSURE
+' 0 --expect said.lisp
+is 'expectations of UNSURE' 1 'said.lisp:4:1: expected NIL, answered NIL UNSURE 5
+said.lisp:5:1: expected T, answered UNSURE' ''
+said '' 4 plain.lisp; is 'a failed read' 4 '' 'selvdrik: plain.lisp: reading failed'
+said '1:1 T' 5 plain.lisp; is 'a failed write' 5 '' 'selvdrik: plain.lisp: the report could not be written'
+said '' 6 plain.lisp; is 'want of memory' 6 '' 'selvdrik: plain.lisp: memory was wanting, so nothing of it is answered'
+said '' 6 ask; is 'want of memory without a file' 6 '' \
+    'selvdrik: standard input: memory was wanting, so nothing of it is answered'
+said '' 139 plain.lisp empty.lisp; is 'a program that dies' 139 '' 'selvdrik: plain.lisp: the program ended with status 139
+selvdrik: empty.lisp: the program ended with status 139'
+said 'FAULT TOO-LONG
+' 3 plain.lisp; is 'a fault without a place' 3 'plain.lisp: FAULT TOO-LONG
+plain.lisp: note: a text of more than 16,777,216 bytes' ''
+said 'FAULT TOO-LONG
+' 3 --github plain.lisp; is 'an annotation without a place' 3 \
+    '::error file=plain.lisp,title=selvdrik::FAULT TOO-LONG (a text of more than 16,777,216 bytes)' ''
+
 # Each kind of the manual is explained, and each text that explains a kind shows it.
 for kind in $(sed -n 's/^| `\([A-Z-]*\)`\(, `\([A-Z-]*\)`\)* |.*/\1 \3/p; s/^| `FAULT \([A-Z0-9-]*\)[ `].*/\1/p' "$top/docs/manual.md"); do
     ran --explain "$kind"
