@@ -6,8 +6,8 @@
 Checked are: the tables of docs/manual.md with the columns Text and Line; each command in an indented block of
 README.md and docs/manual.md that a block of output follows, and each over files, with its output or none; that the
 queries of README.md are those of examples/why.lisp; the comments `; => ..` behind the queries of examples/*.lisp;
-the right answers of bench/beside.lisp; that docs/architecture.md has the crates of crates.txt, in that order, each with the libraries
-that it stands on; and that each must-fail edit that docs/proved.md names is there.
+the right answers of bench/beside.lisp; that docs/architecture.md has the crates of crates.txt, in that order, each with
+the libraries that it stands on; and that each must-fail edit that docs/proved.md names is there.
 """
 import glob
 import os

@@ -24,7 +24,11 @@ failed=0
 cd "$folder" || exit 1
 
 if command -v emacs >/dev/null 2>&1; then
-    timeout 120 emacs -Q --batch -l snippets.el -l editors.el >out 2>err || { echo 'editors: Emacs failed'; cat err; failed=1; }
+    timeout 300 emacs -Q --batch -l snippets.el -l editors.el >out 2>err || {
+        echo 'editors: Emacs failed'
+        cat err
+        failed=1
+    }
     cat >wanted <<'END'
 compile 1:1 0
 compile 2:1 1
@@ -48,7 +52,7 @@ call writefile(found, 'out')
 qall!
 END
     rm -f out
-    timeout 60 vim -N -u NONE -i NONE -es -S test.vim >log 2>&1 </dev/null
+    timeout 300 vim -N -u NONE -i NONE -es -S test.vim >log 2>&1 </dev/null
     cat >wanted <<'END'
 some types.lisp 1:1 T
 some types.lisp 2:1 NIL WITNESS 5

@@ -61,7 +61,7 @@ failed=0
 # try LISP WORDS: the tests with that Lisp.
 try() {
     if command -v "$1" >/dev/null 2>&1; then
-        timeout 300 "$@" </dev/null 2>&1 || { echo "lisp: the tests failed with $1"; failed=1; }
+        timeout 900 "$@" </dev/null 2>&1 || { echo "lisp: the tests failed with $1"; failed=1; }
     else
         echo "lisp: $1 is missing: its tests were left out"
     fi

@@ -4,7 +4,8 @@
 CDPATH='' cd -- "$(dirname -- "$0")/.." || exit 1
 failed=0
 if command -v man >/dev/null 2>&1 && command -v groff >/dev/null 2>&1; then
-    warnings=$(LC_ALL=C.UTF-8 MANROFFSEQ='' MANWIDTH=100 man --warnings -E UTF-8 -l -Tutf8 -Z docs/selvdrik.1 2>&1 >/dev/null)
+    warnings=$(LC_ALL=C.UTF-8 MANROFFSEQ='' MANWIDTH=100 man --warnings -E UTF-8 -l -Tutf8 -Z docs/selvdrik.1 \
+        2>&1 >/dev/null)
     if [ -n "$warnings" ]; then
         printf 'page: %s\n' "$warnings"
         failed=1

@@ -112,7 +112,8 @@ def main(program, seconds='10', path=os.path.join(TOP, 'bench/beside.lisp')):
         for name, said in zip(names, answers):
             counts[name][counted(said, case)] += 1
         told = [marked(said, case, case.said.get(name)) for name, said in zip(names, answers)]
-        print(f'{case.right:5}', ' '.join(f'{said:>8}' for said in told), ' ', re.sub(r'\s+', ' ', case.query), flush=True)
+        columns = ' '.join(f'{said:>8}' for said in told)
+        print(f'{case.right:5}', columns, ' ', re.sub(r'\s+', ' ', case.query), flush=True)
     for name in names:
         listed = ', '.join(f'{number} {kind}' for kind, number in sorted(counts[name].items()))
         print(f"{name}{' ' + versions[name] if versions.get(name) else ''}: {listed}")

@@ -73,7 +73,8 @@
        (decide-all '((bit integer)) :definitions '((deftype index () '(integer 0)) (defstruct |two
 lines|) (subtypep 'bit nil))))
   (try '(((t t nil "T")))
-       (decide-all '((bit integer)) :definitions (list (format nil "(deftype index () `(integer ~~%0))~%; a comment")))))
+       (decide-all '((bit integer))
+                   :definitions (list (format nil "(deftype index () `(integer ~%0))~%; a comment")))))
 
 (defun try-failures ()
   (signals program-failed (decide 'bit 'integer :budget 0))

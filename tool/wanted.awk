@@ -94,7 +94,12 @@ function walk(line,    n, i, c, column) {
             token = 0
             return
         }
-        if (c == "#" && !token && substr(line, i + 1, 1) == "|") { state = "block"; nested = 1; i++; column++; continue }
+        if (c == "#" && !token && substr(line, i + 1, 1) == "|") {
+            state = "block"
+            nested = 1
+            i++; column++
+            continue
+        }
         if (c == "(") { opened(column); code = 1; token = 0; continue }
         if (c == ")") { closed(); code = 1; token = 0; drop(); continue }
         if (c == "\"") { state = "string"; code = 1; token = 0; drop(); continue }
