@@ -26,7 +26,7 @@
     (flymake-mode 1)
     (flymake-start)
     (let ((count 0))
-      (while (and (< count 200) (null (flymake-diagnostics)))
+      (while (and (< count 1200) (null (flymake-diagnostics)))
         (setq count (1+ count))
         (accept-process-output nil 0.1)))
     (dolist (one (sort (flymake-diagnostics) (lambda (a b) (< (flymake-diagnostic-beg a) (flymake-diagnostic-beg b)))))
