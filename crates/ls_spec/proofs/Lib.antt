@@ -11,3 +11,4 @@ pub mod DistinctLemmas
 pub mod FindingLemmas
 pub mod EntryLemmas
 pub mod BoundLemmas
+pub mod UpgradeLemmas

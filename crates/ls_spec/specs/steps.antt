@@ -1,5 +1,4 @@
 -- How the functions of the crate go about it, for the contracts of private functions alone. No public contract
 -- rests on these definitions.
 pub mod Finding
-pub mod Widths
 pub mod Fitting

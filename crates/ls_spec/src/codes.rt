@@ -4,7 +4,7 @@ ghost use Rattle.std.specs.Prelude.{ℕ, pos, unsigned_abs, ◌≡◌, ◌<◌, 
 ghost use Rattle.ls_object.specs.Limits.{numerator_limit};
 ghost use Rattle.ls_spec.specs.Meaning.{specifier};
 ghost use Rattle.ls_spec.specs.Entries.{integers_within, entry_specifier, code_specifier};
-ghost use Rattle.ls_spec.specs.steps.Widths.{HasHeldWidth};
+ghost use Rattle.ls_tables.specs.steps.Widths.{HasHeldWidth};
 
 use crate::spec::{Bound, CharClass, RangeKind, Spec};
 use ls_object::{Code, Entry, Rat, UPGRADING_TABLE};

@@ -66,6 +66,14 @@ pub fn one_upgraded_code()
     ensures { (structures : Structures) (e : Specifier) (c d : ℕ) → UpgradesTo structures e c → UpgradesTo structures e d → c ≡ d }
 {}
 
+/// Upgrading is monotone: where every object of one type is of another, arrays with the upgraded code of the one can
+/// hold no object that arrays with that of the other can't (15.1.2.1). The body is empty, since this is a law about
+/// definitions.
+pub fn upgrading_is_monotone()
+    ensures { (structures : Structures) (e f : Specifier) (c d : ℕ) → UpgradesTo structures e c → UpgradesTo structures f d
+        → IsIncluded structures e f → (o : LispObject) → Holds c o → Holds d o }
+{}
+
 /// The distinct specifiers of a list are each of its specifiers once, in order of first occurrence. The body is
 /// empty, since this is a law about definitions.
 pub fn distinct_specifiers()

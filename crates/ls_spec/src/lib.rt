@@ -22,7 +22,7 @@ pub use codes::of_code;
 pub use key::{key_of, key_of_name};
 pub use laws::{
     approximations, distinct_specifiers, free_predicates, limits_of_specifiers, one_right_answer,
-    one_upgraded_code, types_of_codes,
+    one_upgraded_code, types_of_codes, upgrading_is_monotone,
 };
 pub use limits::{
     DIMENSION_LIMIT, LARGEST_DENOMINATOR, LARGEST_DEPTH, LARGEST_NUMERATOR, LARGEST_RANK,

@@ -14,7 +14,7 @@ abbrev is_ascii : List ℕ → Bool
 is_ascii bs = list_all (λ b. nat_lt b 128) bs
 
 -- what the test says of each place
-ascii : (bs : List ℕ) → is_ascii bs ≡ true → IsAscii bs
+pub ascii : (bs : List ℕ) → is_ascii bs ≡ true → IsAscii bs
 ascii [] h i = omega arith
 ascii (b ∷ bs) h zero = ltb-true _ _ (left _ _ h)
 ascii (b ∷ bs) h (suc i) = ascii bs (right _ _ h) i

@@ -1,3 +1,4 @@
 pub mod Builtins
 pub mod Sets
+pub mod Table
 pub mod steps
