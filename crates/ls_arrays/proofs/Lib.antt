@@ -1,0 +1,5 @@
+pub mod ListLemmas
+pub mod DimensionLaw
+pub mod CodeLaw
+pub mod CountLaw
+pub mod ArrayLaw
