@@ -155,7 +155,8 @@ no_cons_holds learnt marks u v [] h k n = tt
 no_cons_holds learnt marks u v (s ∷ atoms) h k n =
     (cons_truth learnt s marks u v h.0 k.0 ∙ ap (λ parts. part_holds learnt parts u && part_holds learnt (cdr_of s) v) n.0, no_cons_holds learnt marks u v atoms h.1 k.1 n.1)
 
-no_cons_signs : (learnt : Learnt) (list : List Specifier) (count : ℕ) (marks : List Symbol) (u v : LispObject) → length (atoms_of list) ≡ count → AllByRecursion IsBuilt (atoms_of list) → is_none (cars_of list) ≡ true
+-- so the truth values of a cons are all false
+pub no_cons_signs : (learnt : Learnt) (list : List Specifier) (count : ℕ) (marks : List Symbol) (u v : LispObject) → length (atoms_of list) ≡ count → AllByRecursion IsBuilt (atoms_of list) → is_none (cars_of list) ≡ true
     → signs_at learnt (atoms_of list) (node marks (pair u v)) ≡ tabulate count (λ i. nat_le 0 i && nat_lt i 0)
 no_cons_signs learnt list count marks u v e k n =
     is_tabulate (signs_at learnt (atoms_of list) (node marks (pair u v))) count (λ i. nat_le 0 i && nat_lt i 0) (length-map (atoms_of list) (λ s. holds learnt s (node marks (pair u v))) ∙ e) (λ i l.

@@ -142,10 +142,10 @@ kept_grown structures a b memo g h = record {
 }
 
 -- what is there grows by nothing, and twice
-pub grows_none : (old : Memo) → Grows old old
+pub grows_none : {X : Type 0} (old : List X) → Grows old old
 grows_none old = record { more = []; is = sym (append-nil old) }
 
-pub grows_both : (a b c : Memo) → Grows a b → Grows b c → Grows a c
+pub grows_both : {X : Type 0} (a b c : List X) → Grows a b → Grows b c → Grows a c
 grows_both a b c e f = record { more = e.more ++ f.more; is = f.is ∙ ap (λ x. x ++ f.more) e.is ∙ append_assoc a e.more f.more }
 
 -- whether a list is empty

@@ -11,9 +11,11 @@ pub mod CrossLemmas
 pub mod DescentLemmas
 pub mod EntryLemmas
 pub mod FillLemmas
+pub mod FindLemmas
 pub mod FormulaLemmas
 pub mod HalfLemmas
 pub mod HoldLemmas
+pub mod IdleLemmas
 pub mod JoinLemmas
 pub mod KeyLemmas
 pub mod LimitLemmas
@@ -24,5 +26,6 @@ pub mod PushLemmas
 pub mod RowLemmas
 pub mod StoreLemmas
 pub mod TabulateLemmas
+pub mod ThereLemmas
 pub mod TurnLemmas
 pub mod ValueLemmas

@@ -12,7 +12,7 @@ use Rattle.std.proofs.lemmas.Map.Made.{is_member-Decides}
 use Rattle.ls_object.specs.Universe.{LispObject, node, pair, plain, IsPlain}
 
 -- the keys' test says whether a list is among them
-among : (keys : List (List Bool)) (q : List Bool) → Decides (list_any (pointwise beq q) keys) (Contains keys q)
+pub among : (keys : List (List Bool)) (q : List Bool) → Decides (list_any (pointwise beq q) keys) (Contains keys q)
 among = is_member-Decides (pointwise_decides booleans_Decides)
 
 -- the place that a look-up tells has the list that was asked for

@@ -2,6 +2,7 @@
 -- rests on these definitions.
 pub mod Words
 pub mod Classes
+pub mod Idle
 pub mod Halves
 pub mod Pairing
 pub mod Filling

@@ -15,7 +15,9 @@ ghost use Rattle.ls_lists.specs.Candidates.{candidates_of_atoms};
 ghost use Rattle.ls_cells.specs.Cells.{signs_at, AddsRows, IsNoCons, IsBuilt};
 ghost use Rattle.ls_cells.specs.Rows.{AreLong};
 ghost use Rattle.ls_cells.specs.steps.Classes.{IsItself, IsArray};
+ghost use Rattle.ls_cells.specs.steps.Idle.{IsOf};
 
+use crate::idle::{Class, is_idle, push_idle};
 use crate::origin::Origin;
 use crate::rows::{Row, Rows};
 use crate::signs::Signs;
@@ -71,13 +73,17 @@ fn push_object<R: Regions<Atom = Spec>, L: Ledger>(
         → AddsRows structures learnt (map specifier atoms.now) (IsItself (lisp_object object)) rows.old rows.new) }
 {
     let signs = signs_of_object(alloc, regions, atoms, &object)?;
+    // Most objects of a class have the truth values of one before them.
+    if let Some(_) = rows.find(&signs) {
+        return Ok(());
+    }
     let origin = Origin::of_object(alloc, object)?;
     rows.add(Row { signs, origin }, steps)?;
     Ok(())
 }
 
-/// Adds the rows of the objects of a class: one for each of those that stand for it.
-fn push_class<R: Regions<Atom = Spec>, L: Ledger>(
+/// Adds the rows of the objects that stand for a class.
+fn push_reps<R: Regions<Atom = Spec>, L: Ledger>(
     alloc: Global,
     regions: &R,
     atoms: &Items<Spec>,
@@ -102,6 +108,36 @@ fn push_class<R: Regions<Atom = Spec>, L: Ledger>(
         push_object(alloc, regions, these, object, rows, steps)?;
     }
     Ok(())
+}
+
+/// Adds the rows of the objects of a class: one for each of those that stand for it, or one in all where no atom can
+/// hold in the class.
+fn push_class<R: Regions<Atom = Spec>, L: Ledger>(
+    alloc: Global,
+    class: Class,
+    regions: &R,
+    atoms: &Items<Spec>,
+    rows: &mut Rows,
+    steps: &mut Steps<L>,
+) -> Result<(), AllocError>
+    requires class { (o : LispObject) → R.IsOfClass regions.now o → IsOf class o }
+    requires room { 1 ≤ R.limit atoms.now }
+    requires fit { AllByRecursion (R.IsFit regions.now) atoms.now }
+    requires built { All IsBuilt (map specifier atoms.now) }
+    requires meaning { (structures : Structures) (a : Spec) (o : LispObject)
+        → R.IsIn structures a o ↔ Belongs structures (specifier a) o }
+    ensures rises { steps.old ≤ steps.new }
+    ensures most { steps.new ≤ steps.old + R.limit atoms.now }
+    ensures fewer { length rows.new + steps.old ≤ length rows.old + steps.new }
+    ensures long { AreLong (length atoms.now) rows.old → AreLong (length atoms.now) rows.new }
+    ensures rows { OnOk result ((structures : Structures) (learnt : Learnt) → R.IsOver regions.now structures
+        → All (IsLearnt structures learnt) (map specifier atoms.now)
+        → AddsRows structures learnt (map specifier atoms.now) (R.IsOfClass regions.now) rows.old rows.new) }
+{
+    if is_idle(class, atoms.as_slice()) {
+        return push_idle(alloc, class, atoms, rows, steps);
+    }
+    push_reps(alloc, regions, atoms, rows, steps)
 }
 
 /// The simple array of rank 0 that can hold every object.
@@ -135,6 +171,9 @@ fn push_array<L: Ledger>(
         → AddsRows structures learnt (map specifier atoms.now) IsArray rows.old rows.new) }
 {
     let signs = Signs::interval(alloc, atoms.len(), 0, 0)?;
+    if let Some(_) = rows.find(&signs) {
+        return Ok(());
+    }
     let origin = Origin::of_object(alloc, some_array(alloc))?;
     rows.add(Row { signs, origin }, steps)?;
     Ok(())
@@ -157,11 +196,11 @@ pub(crate) fn push_flat<L: Ledger>(
     ensures rows { OnOk result ((learnt : Learnt) → All (IsLearnt structs.now learnt) (map specifier atoms.now)
         → AddsRows structs.now learnt (map specifier atoms.now) IsNoCons rows.old rows.new) }
 {
-    push_class(alloc, &NumberRegions, atoms, rows, steps)?;
-    push_class(alloc, &CharRegions, atoms, rows, steps)?;
-    push_class(alloc, &SymbolRegions, atoms, rows, steps)?;
-    push_class(alloc, &OpaqueRegions, atoms, rows, steps)?;
-    push_class(alloc, structs, atoms, rows, steps)?;
+    push_class(alloc, Class::Numbers, &NumberRegions, atoms, rows, steps)?;
+    push_class(alloc, Class::Characters, &CharRegions, atoms, rows, steps)?;
+    push_class(alloc, Class::Symbols, &SymbolRegions, atoms, rows, steps)?;
+    push_class(alloc, Class::Opaques, &OpaqueRegions, atoms, rows, steps)?;
+    push_class(alloc, Class::Structs, structs, atoms, rows, steps)?;
     push_array(alloc, atoms, rows, steps)?;
     Ok(())
 }

@@ -9,6 +9,7 @@ mod column;
 mod fill;
 mod formula;
 mod half;
+mod idle;
 mod make;
 mod origin;
 mod pairs;

@@ -46,6 +46,10 @@ fn push_pair<L: Ledger>(
 {
     let mut signs = car.signs.copy()?;
     signs.and_with(&cdr.signs);
+    // Most pairs have the truth values of one before them.
+    if let Some(_) = rows.find(&signs) {
+        return Ok(());
+    }
     let origin = Origin::of_pair(alloc, &car.origin, &cdr.origin)?;
     rows.add(Row { signs, origin }, steps)?;
     Ok(())
@@ -103,7 +107,7 @@ fn push_crossed<L: Ledger>(
 }
 
 /// Adds the rows of the conses to those of a list: one for each pair of a row of its cars and a row of its cdrs. Each
-/// makes a step. An error comes for want of memory.
+/// that is new makes a step. An error comes for want of memory.
 pub(crate) fn push_pairs<L: Ledger>(
     alloc: Global,
     table: &Table,
@@ -142,8 +146,8 @@ fn nil(alloc: Global) -> Result<Rc<Origin>, AllocError>
     Origin::of_object(alloc, Object { marks, shape })
 }
 
-/// Adds the row of the conses to those of a list of so many atoms of which none is a CONS: that of NIL and NIL. It makes a
-/// step. An error comes for want of memory.
+/// Adds the row of the conses to those of a list of so many atoms of which none is a CONS: that of NIL and NIL. It
+/// makes at most a step. An error comes for want of memory.
 pub(crate) fn push_cons<L: Ledger>(
     alloc: Global,
     count: usize,
@@ -160,9 +164,12 @@ pub(crate) fn push_cons<L: Ledger>(
         → is_none (cars_of list) ≡ true
         → AddsRows structures learnt (atoms_of list) IsCons rows.old rows.new) }
 {
+    let signs = Signs::interval(alloc, count, 0, 0)?;
+    if let Some(_) = rows.find(&signs) {
+        return Ok(());
+    }
     let nil = nil(alloc)?;
     let origin = Origin::of_pair(alloc, &nil, &nil)?;
-    let signs = Signs::interval(alloc, count, 0, 0)?;
     rows.add(Row { signs, origin }, steps)?;
     Ok(())
 }

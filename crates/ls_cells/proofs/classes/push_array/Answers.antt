@@ -4,7 +4,12 @@ use Rattle.ls_cells.specs.declared.rows.Row.{Row}
 use Rattle.ls_cells.proofs.AddLemmas.{fewer_with, long_with}
 use Rattle.ls_cells.proofs.ArrayLemmas.{array_row}
 use Rattle.ls_cells.proofs.TabulateLemmas.{length-tabulate}
+use Rattle.ls_cells.proofs.ThereLemmas.{array_there}
 use Rattle.ls_cells.proofs.classes.push_array.Goals as goal
+
+pub returns-in-Some-clause-rows : goal.returns-in-Some-clause-rows
+returns-in-Some-clause-rows g c = λ structures learnt.
+    array_there structures learnt c.args.atoms.now c.args.rows.now c.in_ok-signs.signs _ c.len.result c.in-Some.ensures c.requires.atoms c.requires.built c.len.ensures c.in_ok-signs.ensures
 
 pub returns : goal.returns
 returns g c =

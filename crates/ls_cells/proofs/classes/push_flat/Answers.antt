@@ -2,6 +2,7 @@ use Rattle.std.proofs.Common.{arith, refl, map}
 use Rattle.ls_spec.specs.Meaning.{specifier}
 use Rattle.ls_cells.proofs.AddLemmas.{adds_flat}
 use Rattle.ls_cells.proofs.ClassLemmas.{fit_atoms, are_atoms}
+use Rattle.ls_cells.proofs.IdleLemmas.{some_structure}
 use Rattle.ls_cells.proofs.LimitLemmas.{limits_are}
 use Rattle.ls_cells.proofs.classes.push_flat.Goals as goal
 
@@ -16,6 +17,36 @@ push_class-requires-3-clause-fit g c = fit_atoms c.args.structs.now c.args.atoms
 
 pub push_class-requires-4-clause-fit : goal.push_class-requires-4-clause-fit
 push_class-requires-4-clause-fit g c = fit_atoms c.args.structs.now c.args.atoms.now c.requires.fit
+
+pub push_class-requires-clause-room : goal.push_class-requires-clause-room
+push_class-requires-clause-room g c = omega arith
+
+pub push_class-requires-clause-class : goal.push_class-requires-clause-class
+push_class-requires-clause-class g c = λ o h. h
+
+pub push_class-requires-2-clause-room : goal.push_class-requires-2-clause-room
+push_class-requires-2-clause-room g c = omega arith
+
+pub push_class-requires-2-clause-class : goal.push_class-requires-2-clause-class
+push_class-requires-2-clause-class g c = λ o h. h
+
+pub push_class-requires-3-clause-room : goal.push_class-requires-3-clause-room
+push_class-requires-3-clause-room g c = omega arith
+
+pub push_class-requires-3-clause-class : goal.push_class-requires-3-clause-class
+push_class-requires-3-clause-class g c = λ o h. h
+
+pub push_class-requires-4-clause-room : goal.push_class-requires-4-clause-room
+push_class-requires-4-clause-room g c = omega arith
+
+pub push_class-requires-4-clause-class : goal.push_class-requires-4-clause-class
+push_class-requires-4-clause-class g c = λ o h. h
+
+pub push_class-requires-5-clause-room : goal.push_class-requires-5-clause-room
+push_class-requires-5-clause-room g c = omega arith
+
+pub push_class-requires-5-clause-class : goal.push_class-requires-5-clause-class
+push_class-requires-5-clause-class g c = some_structure c.args.structs.now
 
 pub push_array-requires-clause-atoms : goal.push_array-requires-clause-atoms
 push_array-requires-clause-atoms g c = are_atoms c.args.structs.now c.args.atoms.now c.requires.fit

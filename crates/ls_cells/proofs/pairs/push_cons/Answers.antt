@@ -4,7 +4,12 @@ use Rattle.ls_cells.specs.Rows.{origin_object}
 use Rattle.ls_cells.proofs.AddLemmas.{long_with}
 use Rattle.ls_cells.proofs.ConsLemmas.{cons_adds}
 use Rattle.ls_cells.proofs.TabulateLemmas.{length-tabulate}
+use Rattle.ls_cells.proofs.ThereLemmas.{cons_there}
 use Rattle.ls_cells.proofs.pairs.push_cons.Goals as goal
+
+pub returns-in-Some-clause-rows : goal.returns-in-Some-clause-rows
+returns-in-Some-clause-rows g c = λ structures learnt list.
+    cons_there structures learnt list c.args.count c.args.rows.now c.in_ok-signs.signs _ c.in-Some.ensures c.in_ok-signs.ensures
 
 pub returns-clause-long : goal.returns-clause-long
 returns-clause-long g c =

@@ -4,7 +4,13 @@ use Rattle.ls_cells.specs.steps.Pairing.{joined}
 use Rattle.ls_cells.proofs.AddLemmas.{long_with}
 use Rattle.ls_cells.proofs.CrossLemmas.{crosses_one}
 use Rattle.ls_cells.proofs.TabulateLemmas.{length-zip_with}
+use Rattle.ls_cells.proofs.ThereLemmas.{crosses_there}
 use Rattle.ls_cells.proofs.pairs.push_pair.Goals as goal
+
+pub returns-in-Some-clause-rows : goal.returns-in-Some-clause-rows
+returns-in-Some-clause-rows g c =
+    let both = c.and_with.ensures ∙ ap (λ xs. joined xs c.args.cdr.now.signs) c.in_ok-signs.ensures in
+    crosses_there c.args.car.now c.args.cdr.now c.args.rows.now c.and_with.new.self _ both c.in-Some.ensures
 
 pub returns-clause-long : goal.returns-clause-long
 returns-clause-long g c =

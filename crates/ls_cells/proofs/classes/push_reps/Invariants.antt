@@ -7,7 +7,7 @@ use Rattle.ls_spec.specs.Regions.{IsPlainOf, IsRepresented}
 use Rattle.ls_spec.specs.Truth.{Learnt, IsLearnt}
 use Rattle.ls_cells.specs.Rows.{signs_of, AreLong}
 use Rattle.ls_cells.specs.Cells.{signs_at, HasObject}
-use Rattle.ls_cells.proofs.classes.push_class.Given as goal
+use Rattle.ls_cells.proofs.classes.push_reps.Given as goal
 
 abbrev pub invariant-loop-object : goal.invariant-loop-object
 invariant-loop-object g l = record {

@@ -1,0 +1,67 @@
+-- What it comes to where the truth values that were to be added have a row already.
+use Rattle.std.proofs.Common.{ℕ, ◌≡◌, ◌∙◌, sym, ap, subst, Bool, List, [], ◌∷◌, append-nil, ◌&&◌, nat_lt, nat_le, true, map, length, All}
+use Rattle.std.specs.Prelude.{Some, Contains, slice_get}
+use Rattle.std.specs.List.{AllByRecursion}
+use Rattle.std.proofs.lemmas.List.Elements.{recursion_from_All}
+use Rattle.std.proofs.lemmas.Option.{slice_get_within, get_or_from_slice_get}
+use Rattle.ls_object.specs.Universe.{LispObject, node, pair, Structures, IsObject}
+use Rattle.ls_spec.specs.declared.spec.Spec.{Spec}
+use Rattle.ls_spec.specs.Atoms.{atoms_of}
+use Rattle.ls_spec.specs.Fits.{IsAtom}
+use Rattle.ls_spec.specs.Meaning.{specifier}
+use Rattle.ls_spec.specs.Specifier.{Specifier}
+use Rattle.ls_spec.specs.Truth.{Learnt}
+use Rattle.ls_lists.specs.Sides.{cars_of}
+use Rattle.ls_lists.specs.Walks.{is_none}
+use Rattle.ls_cells.specs.declared.rows.Row.{Row}
+use Rattle.ls_cells.specs.Rows.{signs_of}
+use Rattle.ls_cells.specs.Cells.{signs_at, AddsRows, IsBuilt, IsCons}
+use Rattle.ls_cells.specs.Signs.{tabulate}
+use Rattle.ls_cells.specs.steps.Classes.{IsArray}
+use Rattle.ls_cells.specs.steps.Pairing.{joined, Crosses}
+use Rattle.ls_cells.proofs.ArrayLemmas.{signs_of_array}
+use Rattle.ls_cells.proofs.ConsLemmas.{one_by_one, no_cons_signs}
+use Rattle.ls_cells.proofs.CrossLemmas.{in_one}
+
+-- a list has what stands at one of its places
+pub has_at : {X : Type 0} (xs : List X) (i : ℕ) (x : X) → slice_get xs i ≡ Some x → Contains xs x
+has_at xs i x e = (i, slice_get_within xs i x e, get_or_from_slice_get xs i x x e)
+
+-- no row is added for a class of which each object has the truth values of a row that is there
+pub adds_none : (structures : Structures) (learnt : Learnt) (atoms : List Specifier) (IsOfClass : LispObject → Type 0) (rows : List Row) (signs : List Bool) (i : ℕ)
+    → slice_get (signs_of rows) i ≡ Some signs → ((o : LispObject) → IsObject structures o → IsOfClass o → signs ≡ signs_at learnt atoms o)
+    → AddsRows structures learnt atoms IsOfClass rows rows
+adds_none structures learnt atoms IsOfClass rows signs i there same = record {
+  kept = λ _ h. h;
+  each = λ h. h;
+  all = λ o object of_class. subst (Contains (signs_of rows)) (same o object of_class) (has_at (signs_of rows) i signs there);
+}
+
+-- no row is added for a pair whose truth values have a row
+pub crosses_there : (car cdr : Row) (rows : List Row) (signs : List Bool) (i : ℕ) → signs ≡ joined car.signs cdr.signs → slice_get (signs_of rows) i ≡ Some signs
+    → Crosses (car ∷ []) (cdr ∷ []) rows rows
+crosses_there car cdr rows signs i both there = record {
+  more = [];
+  is = sym (append-nil rows);
+  each = tt;
+  all = λ a b h k.
+      subst (Contains (signs_of rows)) (both ∙ ap (λ r. joined r.signs cdr.signs) (sym (in_one car a h)) ∙ ap (λ r. joined a.signs r.signs) (sym (in_one cdr b k))) (has_at (signs_of rows) i signs there);
+}
+
+-- nor for the arrays
+pub array_there : (structures : Structures) (learnt : Learnt) (atoms : List Spec) (rows : List Row) (signs : List Bool) (i n : ℕ) → slice_get (signs_of rows) i ≡ Some signs
+    → AllByRecursion (λ a. IsAtom (specifier a)) atoms → All IsBuilt (map specifier atoms) → n ≡ length atoms → signs ≡ tabulate n (λ i. nat_le 0 i && nat_lt i 0)
+    → AddsRows structures learnt (map specifier atoms) IsArray rows rows
+array_there structures learnt atoms rows signs i n there a built count is =
+    adds_none structures learnt (map specifier atoms) IsArray rows signs i there (λ o _ h.
+    is ∙ ap (λ (k : ℕ). tabulate k (λ i. nat_le 0 i && nat_lt i 0)) count ∙ signs_of_array learnt atoms o a (recursion_from_All IsBuilt (map specifier atoms) built) h)
+
+-- nor for conses, where no atom is a CONS
+pub cons_there : (structures : Structures) (learnt : Learnt) (list : List Specifier) (count : ℕ) (rows : List Row) (signs : List Bool) (i : ℕ) → slice_get (signs_of rows) i ≡ Some signs
+    → signs ≡ tabulate count (λ i. nat_le 0 i && nat_lt i 0) → length (atoms_of list) ≡ count → All IsBuilt (atoms_of list) → is_none (cars_of list) ≡ true
+    → AddsRows structures learnt (atoms_of list) IsCons rows rows
+cons_there structures learnt list count rows signs i there is e built none = adds_none structures learnt (atoms_of list) IsCons rows signs i there same
+  where
+    same : (o : LispObject) → IsObject structures o → IsCons o → signs ≡ signs_at learnt (atoms_of list) o
+    same (node marks (pair u v)) _ j = is ∙ sym (no_cons_signs learnt list count marks u v e (one_by_one IsBuilt (atoms_of list) built) none)
+    same (node marks _) _ j = absurd j
