@@ -1,5 +1,5 @@
 -- What rows that are added for one class after another come to.
-use Rattle.std.proofs.Common.{ℕ, ◌≡◌, ◌∙◌, ◌⊎◌, ◌≤◌, ◌+◌, arith, length-append, inl, inr, sym, ap, subst, Bool, true, false, if◌then◌else◌, MatchBool, List, [], ◌∷◌, ◌++◌, map, length, All, Contains}
+use Rattle.std.proofs.Common.{ℕ, ◌≡◌, ◌⊎◌, ◌≤◌, ◌+◌, arith, length-append, inl, inr, sym, ap, subst, Bool, true, false, if◌then◌else◌, MatchBool, List, [], ◌∷◌, ◌++◌, length, All, Contains}
 use Rattle.std.proofs.lemmas.List.{map-append}
 use Rattle.std.proofs.lemmas.List.Elements.{All-push, Contains-append_left, Contains-push}
 use Rattle.ls_object.specs.Universe.{LispObject, node, number, character, symbol, pair, array, structure, opaque, Structures, IsObject}

@@ -1,8 +1,7 @@
 -- Arrays are in no atom without arrays and strings.
-use Rattle.std.proofs.Common.{ℕ, zero, suc, ◌≡◌, ◌∙◌, ◌<◌, refl, sym, ap, Bool, true, false, ◌&&◌, nat_lt, nat_le, List, [], ◌∷◌, map, length, arith, All, Contains, MatchBool}
+use Rattle.std.proofs.Common.{ℕ, zero, suc, ◌≡◌, ◌∙◌, refl, sym, ap, Bool, true, false, ◌&&◌, nat_lt, nat_le, List, [], ◌∷◌, map, length, arith, All, Contains, MatchBool}
 use Rattle.std.specs.List.{AllByRecursion}
 use Rattle.std.proofs.lemmas.List.{length-map}
-use Rattle.ls_object.specs.declared.symbol.Symbol.{Symbol}
 use Rattle.std.proofs.lemmas.List.Elements.{recursion_from_All}
 use Rattle.ls_object.specs.declared.table.TheConstants.{T_PLACE}
 use Rattle.ls_object.specs.Universe.{LispObject, node, array, Structures}

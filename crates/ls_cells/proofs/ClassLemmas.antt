@@ -1,7 +1,6 @@
 -- The objects that stand for a class have the truth values of the whole class.
-use Rattle.std.proofs.Common.{ℕ, ◌≡◌, ◌∙◌, ◌↔◌, ◌⊎◌, ◌<◌, ◌+◌, inl, inr, refl, ap, sym, subst, arith, Bool, true, false, List, [], ◌∷◌, ◌++◌, map, length, take, get_or, Decides, All, Contains, MatchBool}
+use Rattle.std.proofs.Common.{◌≡◌, ◌∙◌, ◌↔◌, ◌⊎◌, ◌+◌, inl, inr, refl, ap, sym, subst, arith, Bool, true, false, List, [], ◌∷◌, ◌++◌, map, Decides, All, Contains, MatchBool}
 use Rattle.std.specs.List.{AllByRecursion}
-use Rattle.std.proofs.lemmas.List.{map-append, length-map, get_or-map, take_more}
 use Rattle.std.proofs.lemmas.List.Elements.{recursion_from_All, Contains-push_cases}
 use Rattle.ls_object.specs.declared.object.Object.{Object}
 use Rattle.ls_object.specs.Universe.{LispObject, Structures, IsObject, IsPlain, plain}
@@ -51,17 +50,6 @@ module _ (structures : Structures) (learnt : Learnt) (IsIn : Spec → LispObject
       → AreInSameAtoms IsIn atoms r (plain o) → signs_at learnt (map specifier atoms) r ≡ signs_at learnt (map specifier atoms) o
   represented_signs atoms r o known built same =
       same_signs atoms r (plain o) known same ∙ signs_at-plain learnt (map specifier atoms) o built
-
-  -- one truth value more
-  pub more_signs : (atoms : List Spec) (i : ℕ) (a : Spec) (o : LispObject) (r : Bool) (old new : List Bool) → i < length atoms → a ≡ get_or atoms i a → All (IsLearnt structures learnt) (map specifier atoms)
-      → Decides r (IsIn a o) → new ≡ old ++ r ∷ [] → old ≡ signs_at learnt (map specifier (take i atoms)) o → new ≡ signs_at learnt (map specifier (take (i + 1) atoms)) o
-  more_signs atoms i a o r old new l e known d is before =
-      let here : IsLearnt structures learnt (specifier a) = subst (IsLearnt structures learnt) (get_or-map specifier atoms i a (specifier a) l ∙ ap specifier (sym e)) (known i (specifier a) (omega (arith, length-map atoms specifier))) in
-      let taken : take (i + 1) atoms ≡ take i atoms ++ a ∷ [] = take_more atoms i a l ∙ ap (λ x. take i atoms ++ x ∷ []) (sym e) in
-      let whole : signs_at learnt (map specifier (take (i + 1) atoms)) o ≡ signs_at learnt (map specifier (take i atoms)) o ++ holds learnt (specifier a) o ∷ [] =
-      ap (λ xs. signs_at learnt (map specifier xs) o) taken ∙ ap (λ xs. signs_at learnt xs o) (map-append specifier (take i atoms) (a ∷ []))
-      ∙ map-append (λ s. holds learnt s o) (map specifier (take i atoms)) (specifier a ∷ []) in
-      is ∙ ap (λ xs. xs ++ r ∷ []) before ∙ ap (λ b. signs_at learnt (map specifier (take i atoms)) o ++ b ∷ []) (decided_is a o r here d) ∙ sym whole
 
   -- one of those that stand for the class has its row
   pub class_step : (atoms : List Spec) (before after : List Object) (last : Object) (o : LispObject) (old new : List Row) → before ≡ after ++ last ∷ [] → All (IsLearnt structures learnt) (map specifier atoms) → All IsBuilt (map specifier atoms)

@@ -1,5 +1,5 @@
 -- Two lists of truth values joined word by word.
-use Rattle.std.proofs.Common.{ℕ, ◌≡◌, ◌≢◌, ◌∙◌, ◌+◌, ◌*◌, ◌/◌, ◌%◌, ◌<◌, ◌^◌, Bool, true, false, ◌==◌, ◌&&◌, ◌||◌, List, length, get_or, arith, ap, sym, subst, refl, w64, inl, inr}
+use Rattle.std.proofs.Common.{ℕ, ◌≡◌, ◌∙◌, ◌+◌, ◌*◌, ◌/◌, ◌%◌, ◌<◌, ◌^◌, Bool, true, false, ◌==◌, ◌&&◌, ◌||◌, List, length, get_or, arith, ap, sym, subst, refl, w64, inl, inr}
 use Rattle.std.specs.Int.{bit_at, trailing_zeros}
 use Rattle.std.specs.Prelude.{bit_and, bit_or, bit_xor, MatchBool}
 use Rattle.std.specs.List.{refill, list_any}
@@ -7,7 +7,7 @@ use Rattle.std.proofs.lemmas.Bool.{cases_lt}
 use Rattle.std.proofs.lemmas.List.Folds.{list_any_at}
 use Rattle.std.proofs.lemmas.Nat.{or_lt, xor_lt, and_le_l}
 use Rattle.std.proofs.lemmas.Nat.Bits.{bit_at-zero}
-use Rattle.ls_cells.specs.Signs.{tabulate, at, is_set, zip_with, differ, meet}
+use Rattle.ls_cells.specs.Signs.{tabulate, is_set, zip_with, differ, meet}
 use Rattle.ls_cells.specs.steps.Words.{Zipped, Apart, Met}
 use Rattle.ls_cells.proofs.BitLemmas.{and_test, or_test, xor_test, lowest_set}
 use Rattle.ls_cells.proofs.TabulateLemmas.{length-tabulate, at-tabulate, zip_tabulate, any_false}

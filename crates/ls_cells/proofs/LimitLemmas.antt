@@ -1,10 +1,10 @@
 -- The objects that stand for the classes are among the candidates.
 use Rattle.std.proofs.Common.{ℕ, zero, suc, ◌+◌, ◌*◌, ◌≤◌, arith, List, [], ◌∷◌, map, Bool, if◌then◌else◌}
-use Rattle.std.specs.List.{count_by, list_any, flat_map}
+use Rattle.std.specs.List.{count_by, flat_map}
 use Rattle.std.proofs.lemmas.List.Sums.{sum_by-cons}
 use Rattle.ls_spec.specs.declared.spec.Spec.{Spec}
 use Rattle.ls_spec.specs.declared.spec.Point.TheVariants as point
-use Rattle.ls_spec.specs.Specifier.{Specifier, all_objects, no_objects, and_of, or_of, not_of, eql_to, range_of, chars_of, symbols_of, kind_of, structure_under, any_structure, array_any, array_of, string_of, cons_of, satisfies}
+use Rattle.ls_spec.specs.Specifier.{Specifier, eql_to, range_of, kind_of, structure_under, any_structure}
 use Rattle.ls_spec.specs.Meaning.{specifier}
 use Rattle.ls_points.specs.Classes as class
 use Rattle.ls_points.specs.Members.{number_limit, character_limit, symbol_limit, kind_limit, structure_limit}

@@ -1,5 +1,5 @@
 -- Words that hold a list of truth values.
-use Rattle.std.proofs.Common.{ℕ, ◌≡◌, ◌∙◌, ◌+◌, ◌*◌, ◌/◌, ◌%◌, ◌<◌, ◌≤◌, ◌^◌, Bool, true, false, not, ◌==◌, ◌&&◌, nat_lt, List, [], ◌++◌, length, get_or, drop, map, arith, ap, sym, subst, refl, ◌⊎◌, inl, inr, lit<}
+use Rattle.std.proofs.Common.{ℕ, ◌≡◌, ◌∙◌, ◌+◌, ◌*◌, ◌/◌, ◌%◌, ◌<◌, ◌≤◌, ◌^◌, Bool, true, false, not, ◌==◌, ◌&&◌, nat_lt, List, [], length, get_or, drop, map, arith, ap, sym, subst, refl, ◌⊎◌, inl, inr, lit<}
 use Rattle.std.specs.Int.{bit_at, div_ceil}
 use Rattle.std.specs.Prelude.{bit_and, nat_le}
 use Rattle.std.specs.List.{refill}
@@ -179,3 +179,7 @@ outside_at {n} {m} {ws} {us} a b k j s t d e h =
     let here = true_at a k j s d h.0 in
     let other : IsOutside a us (k, j) = subst (λ vs. IsOutside a vs (k, j)) e h in
     (here.0, here.1, shown_at t (k * 64 + j) ∙ is_set_in us k j h.0.1 ∙ other.1)
+
+-- where a word is 0, or there is none, no value of its block is true
+pub clear_block : {n : ℕ} {ws : List ℕ} {values : List Bool} (block : ℕ) → Shows values n ws → get_or ws block 0 ≡ 0 → (i : ℕ) → i / 64 ≡ block → at values i ≡ false
+clear_block {n} {ws} block s e i f = shown_at s i ∙ clear_word ws i (ap (λ k. get_or ws k 0) f ∙ e)

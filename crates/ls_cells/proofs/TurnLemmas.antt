@@ -3,7 +3,7 @@ use Rattle.std.proofs.Common.{ℕ, ◌≡◌, ◌∙◌, ◌+◌, ◌<◌, sym, 
 use Rattle.std.specs.Prelude.{Some, slice_get, All}
 use Rattle.std.specs.List.{range_with_len}
 use Rattle.std.proofs.lemmas.List.{take_more, map_push, get_or-map, length-map}
-use Rattle.std.proofs.lemmas.List.FromFn.{length-map-range_with_len, get_or-map-range_with_len, map-range_with_len_more}
+use Rattle.std.proofs.lemmas.List.FromFn.{length-map-range_with_len, get_or-map-range_with_len}
 use Rattle.std.proofs.lemmas.Option.{slice_get_within, get_or_from_slice_get}
 use Rattle.ls_cells.specs.declared.rows.Row.{Row}
 use Rattle.ls_cells.specs.Signs.{at, tabulate}
@@ -12,24 +12,10 @@ use Rattle.ls_cells.specs.Rows.{signs_of}
 use Rattle.ls_cells.specs.Columns.{columns_of}
 use Rattle.ls_cells.proofs.TabulateLemmas.{is_tabulate}
 
--- the values at a place, of one list more
-pub values_more : (lists : List (List Bool)) (place i : ℕ) (list : List Bool) → i < length lists → list ≡ get_or lists i list
-    → row_at (take (i + 1) lists) place ≡ row_at (take i lists) place ++ at list place ∷ []
-unfolding row_at
-values_more lists place i list l e =
-    ap (map (λ c. at c place)) (take_more lists i list l ∙ ap (λ x. take i lists ++ x ∷ []) (sym e)) ∙ map_push (λ c. at c place) (take i lists) list
-
-pub no_values : (place : ℕ) → row_at [] place ≡ []
-unfolding row_at
-no_values place = refl
-
+-- there are as many values at a place as lists
 pub length-row_at : (lists : List (List Bool)) (j : ℕ) → length (row_at lists j) ≡ length lists
 unfolding row_at
 length-row_at lists j = length-map lists (λ c. at c j)
-
--- the values at one place more
-pub places_more : (lists : List (List Bool)) (n : ℕ) → map (row_at lists) (range_with_len 0 (n + 1)) ≡ map (row_at lists) (range_with_len 0 n) ++ row_at lists n ∷ []
-places_more lists n = map-range_with_len_more (row_at lists) 0 n n (omega arith)
 
 -- the truth values of one row more
 pub signs_more : (rows : List Row) (i : ℕ) (row : Row) → slice_get rows i ≡ Some row → signs_of (take (i + 1) rows) ≡ signs_of (take i rows) ++ row.signs ∷ []

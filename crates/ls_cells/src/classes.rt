@@ -16,8 +16,10 @@ ghost use Rattle.ls_cells.specs.Cells.{signs_at, AddsRows, IsNoCons, IsBuilt};
 ghost use Rattle.ls_cells.specs.Rows.{AreLong};
 ghost use Rattle.ls_cells.specs.steps.Classes.{IsItself, IsArray};
 ghost use Rattle.ls_cells.specs.steps.Idle.{IsOf};
+ghost use Rattle.ls_cells.specs.steps.Index.{IsIndexOf};
 
 use crate::idle::{Class, is_idle, push_idle};
+use crate::index::Index;
 use crate::origin::Origin;
 use crate::rows::{Row, Rows};
 use crate::signs::Signs;
@@ -28,14 +30,16 @@ use ls_spec::{Regions, Spec};
 use std::alloc::{AllocError, Global};
 use std::sync::ledger::Ledger;
 
-/// The truth value of each atom at an object of the class.
+/// The truth value of each atom at an object of the class. Only the atoms that the index does not name are tested.
 fn signs_of_object<R: Regions<Atom = Spec>>(
     alloc: Global,
     regions: &R,
     atoms: &[Spec],
+    index: &Index,
     object: &Object,
 ) -> Result<Signs, AllocError>
     requires class { R.IsOfClass regions.now (lisp_object object.now) }
+    requires index { IsIndexOf (map specifier atoms.now) (length atoms.now) index.now }
     requires meaning { (structures : Structures) (a : Spec) (o : LispObject)
         → R.IsIn structures a o ↔ Belongs structures (specifier a) o }
     ensures long { IfOk result (λ signs. length signs ≡ length atoms.now) }
@@ -43,9 +47,9 @@ fn signs_of_object<R: Regions<Atom = Spec>>(
         → All (IsLearnt structures learnt) (map specifier atoms.now)
         → signs ≡ signs_at learnt (map specifier atoms.now) (plain (lisp_object object.now))) }
 {
-    let mut signs = Signs::new(alloc);
-    for atom in atoms {
-        signs.push(regions.holds(atom, object))?;
+    let mut signs = index.found(alloc, atoms.len(), object)?;
+    for place in index.others() {
+        signs.set(*place, regions.holds(&atoms[*place], object));
     }
     Ok(signs)
 }
@@ -55,12 +59,14 @@ fn push_object<R: Regions<Atom = Spec>, L: Ledger>(
     alloc: Global,
     regions: &R,
     atoms: &[Spec],
+    index: &Index,
     object: Object,
     rows: &mut Rows,
     steps: &mut Steps<L>,
 ) -> Result<(), AllocError>
     requires class { R.IsOfClass regions.now (lisp_object object) }
     requires plain { IsPlain (lisp_object object) }
+    requires index { IsIndexOf (map specifier atoms.now) (length atoms.now) index.now }
     requires meaning { (structures : Structures) (a : Spec) (o : LispObject)
         → R.IsIn structures a o ↔ Belongs structures (specifier a) o }
     ensures rises { steps.old ≤ steps.new }
@@ -72,7 +78,7 @@ fn push_object<R: Regions<Atom = Spec>, L: Ledger>(
         → All (IsLearnt structures learnt) (map specifier atoms.now)
         → AddsRows structures learnt (map specifier atoms.now) (IsItself (lisp_object object)) rows.old rows.new) }
 {
-    let signs = signs_of_object(alloc, regions, atoms, &object)?;
+    let signs = signs_of_object(alloc, regions, atoms, index, &object)?;
     // Most objects of a class have the truth values of one before them.
     if let Some(_) = rows.find(&signs) {
         return Ok(());
@@ -87,10 +93,12 @@ fn push_reps<R: Regions<Atom = Spec>, L: Ledger>(
     alloc: Global,
     regions: &R,
     atoms: &Items<Spec>,
+    index: &Index,
     rows: &mut Rows,
     steps: &mut Steps<L>,
 ) -> Result<(), AllocError>
     requires fit { AllByRecursion (R.IsFit regions.now) atoms.now }
+    requires index { IsIndexOf (map specifier atoms.now) (length atoms.now) index.now }
     requires built { All IsBuilt (map specifier atoms.now) }
     requires meaning { (structures : Structures) (a : Spec) (o : LispObject)
         → R.IsIn structures a o ↔ Belongs structures (specifier a) o }
@@ -105,7 +113,7 @@ fn push_reps<R: Regions<Atom = Spec>, L: Ledger>(
     let mut reps = regions.reps(alloc, atoms)?;
     let these = atoms.as_slice();
     while let Some(object) = reps.pop() {
-        push_object(alloc, regions, these, object, rows, steps)?;
+        push_object(alloc, regions, these, index, object, rows, steps)?;
     }
     Ok(())
 }
@@ -117,12 +125,14 @@ fn push_class<R: Regions<Atom = Spec>, L: Ledger>(
     class: Class,
     regions: &R,
     atoms: &Items<Spec>,
+    index: &Index,
     rows: &mut Rows,
     steps: &mut Steps<L>,
 ) -> Result<(), AllocError>
     requires class { (o : LispObject) → R.IsOfClass regions.now o → IsOf class o }
     requires room { 1 ≤ R.limit atoms.now }
     requires fit { AllByRecursion (R.IsFit regions.now) atoms.now }
+    requires index { IsIndexOf (map specifier atoms.now) (length atoms.now) index.now }
     requires built { All IsBuilt (map specifier atoms.now) }
     requires meaning { (structures : Structures) (a : Spec) (o : LispObject)
         → R.IsIn structures a o ↔ Belongs structures (specifier a) o }
@@ -137,7 +147,7 @@ fn push_class<R: Regions<Atom = Spec>, L: Ledger>(
     if is_idle(class, atoms.as_slice()) {
         return push_idle(alloc, class, atoms, rows, steps);
     }
-    push_reps(alloc, regions, atoms, rows, steps)
+    push_reps(alloc, regions, atoms, index, rows, steps)
 }
 
 /// The simple array of rank 0 that can hold every object.
@@ -196,11 +206,44 @@ pub(crate) fn push_flat<L: Ledger>(
     ensures rows { OnOk result ((learnt : Learnt) → All (IsLearnt structs.now learnt) (map specifier atoms.now)
         → AddsRows structs.now learnt (map specifier atoms.now) IsNoCons rows.old rows.new) }
 {
-    push_class(alloc, Class::Numbers, &NumberRegions, atoms, rows, steps)?;
-    push_class(alloc, Class::Characters, &CharRegions, atoms, rows, steps)?;
-    push_class(alloc, Class::Symbols, &SymbolRegions, atoms, rows, steps)?;
-    push_class(alloc, Class::Opaques, &OpaqueRegions, atoms, rows, steps)?;
-    push_class(alloc, Class::Structs, structs, atoms, rows, steps)?;
+    let index = Index::of_atoms(alloc, atoms.as_slice())?;
+    push_class(
+        alloc,
+        Class::Numbers,
+        &NumberRegions,
+        atoms,
+        &index,
+        rows,
+        steps,
+    )?;
+    push_class(
+        alloc,
+        Class::Characters,
+        &CharRegions,
+        atoms,
+        &index,
+        rows,
+        steps,
+    )?;
+    push_class(
+        alloc,
+        Class::Symbols,
+        &SymbolRegions,
+        atoms,
+        &index,
+        rows,
+        steps,
+    )?;
+    push_class(
+        alloc,
+        Class::Opaques,
+        &OpaqueRegions,
+        atoms,
+        &index,
+        rows,
+        steps,
+    )?;
+    push_class(alloc, Class::Structs, structs, atoms, &index, rows, steps)?;
     push_array(alloc, atoms, rows, steps)?;
     Ok(())
 }

@@ -4,7 +4,6 @@ ghost use Rattle.std.specs.Prelude.{◌≡◌, ◌<◌, [], ◌∷◌, length, I
 ghost use Rattle.ls_object.specs.Universe.{IsPlain};
 ghost use Rattle.ls_intern.specs.Places.{at, specifiers_at, AllBelow};
 ghost use Rattle.ls_cells.specs.Rows.{origin_object};
-ghost use Rattle.ls_cells.specs.Formulas.{row_at};
 ghost use Rattle.ls_cells.specs.steps.Halves.{part_of, IsPartColumn, ArePartColumns, AreHalves};
 
 use crate::cells::Cells;
@@ -12,7 +11,7 @@ use crate::column::column_of;
 use crate::rows::{Row, Rows};
 use crate::side::Side;
 use crate::signs::Signs;
-use crate::transpose::values_at;
+use crate::transpose::transpose;
 use ls_intern::{Id, Table};
 use ls_object::Items;
 use ls_sides::cons_sides;
@@ -72,15 +71,16 @@ fn part_columns(
     Ok(columns)
 }
 
-// The row at a place with the values of the columns there.
-fn half_at(alloc: Global, columns: &[Signs], rows: &Rows, i: usize) -> Result<Row, AllocError>
-    requires { i < length rows.now }
+// The row at a place with other values.
+fn half_at(values: &[Signs], rows: &Rows, i: usize) -> Result<Row, AllocError>
+    requires row { i < length rows.now }
+    requires values { i < length values.now }
     ensures object { IfOk result (λ half.
         IfSome (slice_get rows.now i) (λ row. origin_object half.origin.value ≡ origin_object row.origin.value)) }
     ensures plain { IfOk result (λ half. IsPlain (origin_object half.origin.value)) }
-    ensures signs { IfOk result (λ half. half.signs ≡ row_at columns.now i) }
+    ensures signs { IfOk result (λ half. slice_get values.now i ≡ Some half.signs) }
 {
-    let signs = values_at(alloc, columns, i)?;
+    let signs = values[i].copy()?;
     let origin = rows.row(i).origin.clone()?;
     Ok(Row { signs, origin })
 }
@@ -102,10 +102,12 @@ pub(crate) fn halves(
         hs.items) }
 {
     let columns = part_columns(alloc, table, atoms, cells, side)?;
-    let columns = columns.as_slice();
+    let count = cells.rows.len();
+    let values = transpose(alloc, columns.as_slice(), count)?;
+    let values = values.as_slice();
     let mut halves = Vec::new(alloc);
-    for i in 0..cells.rows.len() {
-        let half = half_at(alloc, columns, &cells.rows, i)?;
+    for i in 0..count {
+        let half = half_at(values, &cells.rows, i)?;
         halves.push(half)?;
     }
     Ok(halves)

@@ -82,6 +82,17 @@ impl Signs {
         (words[i / 64] >> (i % 64)) & 1 == 1
     }
 
+    /// Whether it can be told at once that of the 64 values of a block none is true.
+    pub(crate) fn is_clear_block(&self, block: usize) -> bool
+        ensures { result ≡ true → (i : ℕ) → i / 64 ≡ block → at self.now i ≡ false }
+    {
+        let words = self.words.as_slice();
+        if block < words.len() {
+            return words[block] == 0;
+        }
+        true
+    }
+
     /// Adds a value at the end. An error comes for want of memory, and leaves the list as it was.
     pub fn push(&mut self, value: bool) -> Result<(), AllocError>
         ensures ok { OnOk result (self.new ≡ self.old ++ value ∷ []) }
@@ -101,6 +112,16 @@ impl Signs {
         ensures { self.new ≡ slice_set self.old i (not (at self.old i)) }
     {
         flip_bit(&mut self.words, i);
+    }
+
+    /// Makes the value at a place this one.
+    pub fn set(&mut self, i: usize, value: bool)
+        requires { i < length self.old }
+        ensures { self.new ≡ slice_set self.old i value }
+    {
+        if self.get(i) != value {
+            self.flip(i);
+        }
     }
 
     /// Negates each value.

@@ -3,6 +3,7 @@ use Rattle.ls_spec.specs.Meaning.{specifier}
 use Rattle.ls_cells.proofs.AddLemmas.{adds_flat}
 use Rattle.ls_cells.proofs.ClassLemmas.{fit_atoms, are_atoms}
 use Rattle.ls_cells.proofs.IdleLemmas.{some_structure}
+use Rattle.ls_cells.proofs.IndexLemmas.{same_atoms}
 use Rattle.ls_cells.proofs.LimitLemmas.{limits_are}
 use Rattle.ls_cells.proofs.classes.push_flat.Goals as goal
 
@@ -47,6 +48,21 @@ push_class-requires-5-clause-room g c = omega arith
 
 pub push_class-requires-5-clause-class : goal.push_class-requires-5-clause-class
 push_class-requires-5-clause-class g c = some_structure c.args.structs.now
+
+pub push_class-requires-clause-index : goal.push_class-requires-clause-index
+push_class-requires-clause-index g c = same_atoms c.args.atoms.now c.as_slice.result.now c.in_ok-index.index c.as_slice.ensures c.in_ok-index.ensures
+
+pub push_class-requires-2-clause-index : goal.push_class-requires-2-clause-index
+push_class-requires-2-clause-index g c = same_atoms c.args.atoms.now c.as_slice.result.now c.in_ok-index.index c.as_slice.ensures c.in_ok-index.ensures
+
+pub push_class-requires-3-clause-index : goal.push_class-requires-3-clause-index
+push_class-requires-3-clause-index g c = same_atoms c.args.atoms.now c.as_slice.result.now c.in_ok-index.index c.as_slice.ensures c.in_ok-index.ensures
+
+pub push_class-requires-4-clause-index : goal.push_class-requires-4-clause-index
+push_class-requires-4-clause-index g c = same_atoms c.args.atoms.now c.as_slice.result.now c.in_ok-index.index c.as_slice.ensures c.in_ok-index.ensures
+
+pub push_class-requires-5-clause-index : goal.push_class-requires-5-clause-index
+push_class-requires-5-clause-index g c = same_atoms c.args.atoms.now c.as_slice.result.now c.in_ok-index.index c.as_slice.ensures c.in_ok-index.ensures
 
 pub push_array-requires-clause-atoms : goal.push_array-requires-clause-atoms
 push_array-requires-clause-atoms g c = are_atoms c.args.structs.now c.args.atoms.now c.requires.fit

@@ -1,4 +1,4 @@
-use Rattle.std.proofs.Common.{arith, ap, subst, length, length-append, map, List, ◌∷◌, [], All}
+use Rattle.std.proofs.Common.{arith, ap, sym, subst, length, length-append, map, List, ◌∷◌, [], All}
 use Rattle.std.specs.List.{AllByRecursion}
 use Rattle.ls_object.specs.Universe.{Structures, IsObject}
 use Rattle.ls_object.specs.Meaning.{lisp_object}
@@ -11,7 +11,11 @@ use Rattle.ls_cells.specs.Rows.{AreLong}
 use Rattle.ls_cells.specs.Cells.{AddsRows}
 use Rattle.ls_cells.specs.steps.Classes.{IsItself}
 use Rattle.ls_cells.proofs.ClassLemmas.{class_step, class_done}
+use Rattle.ls_cells.proofs.IndexLemmas.{same_atoms}
 use Rattle.ls_cells.proofs.classes.push_reps.Goals as goal
+
+pub push_object-requires-clause-index : goal.push_object-requires-clause-index
+push_object-requires-clause-index g c = same_atoms c.as_slice-these.result.now c.args.atoms.now c.args.index.now (sym c.as_slice-these.ensures) c.requires.index
 
 pub loop-object-preserved : goal.loop-object-preserved
 loop-object-preserved g c =

@@ -1,10 +1,13 @@
-use Rattle.std.proofs.Common.{◌∙◌, ap, sym, [], ◌∷◌, ◌++◌, map}
-use Rattle.std.specs.List.{range_with_len}
-use Rattle.ls_cells.specs.Formulas.{row_at}
-use Rattle.ls_cells.proofs.TurnLemmas.{places_more}
+use Rattle.std.proofs.Common.{◌∙◌, length, subst}
+use Rattle.ls_cells.specs.steps.Turning.{HasTurned}
+use Rattle.ls_cells.proofs.RaiseLemmas.{turned_none, turned_all}
 use Rattle.ls_cells.proofs.transpose.transpose.Goals as goal
 
-pub loop-place-preserved : goal.loop-place-preserved
-loop-place-preserved c =
-    c.in_ok-push.ensures.ok ∙ ap (λ out. out ++ c.in_ok-row.row ∷ []) c.loop-place.invariant
-    ∙ ap (λ row. map (row_at c.args.lists.now) (range_with_len 0 c.loop-place.place) ++ row ∷ []) c.in_ok-row.ensures ∙ sym (places_more c.args.lists.now c.loop-place.place)
+pub raise_all-requires : goal.raise_all-requires
+raise_all-requires c = turned_none c.args.lists.now c.in_ok-columns.columns.items c.in_ok-columns.ensures.1
+
+pub returns : goal.returns
+returns c =
+    c.from_vec.ensures
+    ∙ turned_all c.args.lists.now c.raise_all.new.columns.items c.args.count
+    (subst (λ n. HasTurned c.args.lists.now n (length c.args.lists.now) c.raise_all.new.columns.items) c.in_ok-columns.ensures.0 c.raise_all.ensures)
