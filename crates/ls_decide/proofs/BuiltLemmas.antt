@@ -1,11 +1,11 @@
 -- What specifiers without arrays, strings and predicates lack, and what a pair of them costs.
-use Rattle.std.proofs.Common.{◌≡◌, ℕ, ◌<◌, ◌≤◌, ◌+◌, Some, refl, ap, sym, ◌∙◌, List, [], ◌∷◌, ◌++◌, Bool, true, false, ◌||◌, map, arith}
+use Rattle.std.proofs.Common.{◌≡◌, ℕ, ◌<◌, ◌≤◌, ◌+◌, Some, refl, ap, ◌∙◌, List, [], ◌∷◌, ◌++◌, Bool, true, false, ◌||◌, map, arith}
 use Rattle.std.specs.List.{flat_map, sum_by}
-use Rattle.ls_spec.specs.Specifier.{Specifier, and_of, or_of, not_of, array_any, array_of, string_of, cons_of, satisfies, Specifiers, no_more, also}
+use Rattle.ls_spec.specs.Specifier.{Specifier, and_of, or_of, not_of, array_of, cons_of, satisfies, Specifiers, no_more, also}
 use Rattle.ls_spec.specs.Approximation.{HasNoPredicate, HaveNoPredicate, has_free_predicate, some_has_free_predicate}
 use Rattle.ls_spec.specs.Distinct.{distinct}
 use Rattle.ls_lists.specs.Walks.{sum}
-use Rattle.ls_lists.specs.Costs.{elements_in, elements_in_all, table_specifiers, element_lists, predicate_lists, pair_cost}
+use Rattle.ls_lists.specs.Costs.{elements_in, elements_in_all, table_specifiers, element_lists, pair_cost}
 use Rattle.ls_cells.specs.Cells.{IsBuilt, AreBuilt}
 use Rattle.ls_decide.specs.Answers.{TellsCost}
 use Rattle.ls_decide.proofs.CostLemmas.{no_predicates, pair_cost_is}

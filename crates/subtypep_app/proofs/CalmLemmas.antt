@@ -1,5 +1,5 @@
 -- What a run answers where no call fails follows from how it ended.
-use Rattle.std.proofs.Common.{◌≡◌, ℕ, ◌≤◌, inl, inr, List, length, Bool, true, false, Option, Some, refl, ap, sym, ◌∙◌, subst, arith}
+use Rattle.std.proofs.Common.{◌≡◌, ℕ, ◌≤◌, inl, inr, List, length, Bool, true, false, Option, Some, refl, ap, sym, subst, arith}
 use Rattle.std.specs.Prelude.{encode_utf8_all}
 use Rattle.ls_io.specs.Moves.{limit, Took}
 use Rattle.ls_reader.specs.declared.datum.Datum.{Datum}
@@ -12,7 +12,7 @@ use Rattle.subtypep_app.specs.declared.words.Command.TheVariants.{Ask}
 use Rattle.subtypep_app.specs.Words.{Means}
 use Rattle.subtypep_app.specs.Report.{IsReport}
 use Rattle.subtypep_app.specs.Replies.{IsTold, IsReportOf, IsAnswered, RepliesTo, IsReply}
-use Rattle.subtypep_app.specs.Runs.{Outside, Wrote, IsEnded, HasReplied}
+use Rattle.subtypep_app.specs.Runs.{Outside, IsEnded, HasReplied}
 use Rattle.subtypep_app.specs.Deciding.{AllDecided}
 use Rattle.subtypep_app.specs.Calm.{NoCallFailed, IsUnreadable, IsAnsweredOrRefused, IsComplete, DecidesAll, HasRun}
 use Rattle.subtypep_app.proofs.WordLemmas.{Means-one}

@@ -1,16 +1,14 @@
 -- How a run ends follows from what was read and what was written.
-use Rattle.std.proofs.Common.{◌≡◌, ℕ, ◌<◌, ◌≤◌, inl, inr, List, length, Option, refl, sym, subst, arith}
+use Rattle.std.proofs.Common.{◌≡◌, ℕ, ◌<◌, ◌≤◌, inl, inr, List, length, Option, refl, subst, arith}
 use Rattle.std.specs.Prelude.{encode_utf8_all}
 use Rattle.std.specs.Io.KnownBytes.{IsAtEnd}
-use Rattle.ls_io.specs.Causes.{Rose}
 use Rattle.ls_io.specs.Moves.{Took, TookPrefix}
 use Rattle.subtypep_app.specs.declared.status.Status.{Status}
 use Rattle.subtypep_app.specs.declared.status.Status.TheVariants.{Clean, Found, Usage, Unreadable, SourceFault, SinkFault, Memory}
-use Rattle.subtypep_app.specs.declared.words.Command.{Command}
 use Rattle.subtypep_app.specs.declared.words.Command.TheVariants.{Ask}
 use Rattle.subtypep_app.specs.Words.{Means}
-use Rattle.subtypep_app.specs.Replies.{IsTold, IsAnswered, IsReply, Reply, bytes_of}
-use Rattle.subtypep_app.specs.Runs.{Outside, ReadFailed, Wrote, WroteNothing, ReadAll, IsEnded, HasReplied}
+use Rattle.subtypep_app.specs.Replies.{IsTold, IsAnswered, IsReply, Reply}
+use Rattle.subtypep_app.specs.Runs.{Outside, ReadFailed, Wrote, ReadAll, IsEnded, HasReplied}
 use Rattle.subtypep_app.specs.steps.Finishing.{IsFinished}
 
 -- an answer is a reply to words that ask for it

@@ -1,12 +1,11 @@
 -- The report on the queries so far, with the line of one more query.
-use Rattle.std.proofs.Common.{ℕ, ◌+◌, ◌<◌, ◌≡◌, ◌∙◌, sym, ap, List, [], ◌∷◌, ◌++◌, append_assoc, append-nil, take, length, get_or, Bool, false, ◌||◌}
+use Rattle.std.proofs.Common.{ℕ, ◌+◌, ◌<◌, ◌≡◌, ◌∙◌, sym, ap, List, [], ◌∷◌, ◌++◌, append_assoc, append-nil, take, length, get_or, Bool, ◌||◌}
 use Rattle.std.specs.List.{AllZip, list_any}
 use Rattle.std.proofs.lemmas.List.{take_more}
 use Rattle.std.proofs.lemmas.List.Folds.{list_any-append}
 use mathlib.Core.Bool.{or-false}
 use Rattle.ls_env.specs.declared.query.Query.{Query}
 use Rattle.ls_env.specs.Environments.{Environment}
-use Rattle.subtypep_app.specs.declared.line.Line.{Line}
 use Rattle.subtypep_app.specs.Report.{AreReported, IsLineOf, line_text, lines_text, is_finding}
 use Rattle.subtypep_app.specs.steps.Reporting.{LineAppended}
 

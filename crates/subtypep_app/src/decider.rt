@@ -4,7 +4,7 @@ ghost use Rattle.std.specs.Prelude.{◌≡◌, ◌≤◌, ◌^◌, IfOk};
 ghost use Rattle.ls_spec.specs.Meaning.{specifier};
 ghost use Rattle.ls_spec.specs.Fits.{Fits};
 ghost use Rattle.ls_cells.specs.Cells.{IsBuilt};
-ghost use Rattle.ls_cells.specs.Kept.{structures_in};
+ghost use Rattle.ls_cells.specs.Kept.{structures_in, entries_in, Grows};
 ghost use Rattle.ls_decide.specs.Answers.{IsRight, IsPlainAnswer};
 
 use ls_decide::{Answer, Session};
@@ -32,6 +32,7 @@ impl<L: Ledger> Decider<L> {
         requires second_built { IsBuilt (specifier b.now) }
         ensures budget { self.new.budget ≡ self.old.budget }
         ensures structures { structures_in self.new.session ≡ structures_in self.old.session }
+        ensures keeps { Grows (entries_in self.old.session) (entries_in self.new.session) }
         ensures right { IfOk result (IsRight (structures_in self.old.session) (specifier a.now) (specifier b.now) self.old.budget) }
         ensures plain { IfOk result IsPlainAnswer }
     {

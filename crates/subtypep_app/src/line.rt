@@ -1,7 +1,7 @@
 // The line that answers a query.
 
 ghost use Rattle.std.specs.Prelude.{◌≡◌, IfOk};
-ghost use Rattle.ls_cells.specs.Kept.{structures_in};
+ghost use Rattle.ls_cells.specs.Kept.{structures_in, entries_in, Grows};
 ghost use Rattle.subtypep_app.specs.Queries.{inclusion};
 ghost use Rattle.subtypep_app.specs.Report.{IsRightLine, IsLineOf, is_finding};
 ghost use Rattle.subtypep_app.specs.steps.Asking.{line_of_stop};
@@ -59,6 +59,7 @@ fn inclusion_line<L: Ledger>(
     requires structures { structures_in decider.old.session ≡ env.now.structures }
     ensures budget { decider.new.budget ≡ decider.old.budget }
     ensures structures { structures_in decider.new.session ≡ structures_in decider.old.session }
+    ensures keeps { Grows (entries_in decider.old.session) (entries_in decider.new.session) }
     ensures right { IfOk result (IsRightLine decider.old.budget env.now (inclusion first.now second.now)) }
     ensures plain { IfOk result IsPlainLine }
 {
@@ -83,6 +84,7 @@ pub(crate) fn line_of<L: Ledger>(
     requires structures { structures_in decider.old.session ≡ env.now.structures }
     ensures budget { decider.new.budget ≡ decider.old.budget }
     ensures structures { structures_in decider.new.session ≡ structures_in decider.old.session }
+    ensures keeps { Grows (entries_in decider.old.session) (entries_in decider.new.session) }
     ensures right { IfOk result (IsLineOf decider.old.budget env.now query.now) }
     ensures plain { IfOk result IsPlainLine }
 {

@@ -3,7 +3,7 @@
 ghost use Rattle.std.specs.Prelude.{◌≡◌, ◌<◌, ◌≤◌, ◌++◌, ◌^◌, [], length, IfOk, OnOk};
 ghost use Rattle.std.specs.Str.{IsAscii};
 ghost use Rattle.ls_io.specs.Moves.{limit};
-ghost use Rattle.ls_cells.specs.Kept.{structures_in};
+ghost use Rattle.ls_cells.specs.Kept.{structures_in, entries_in, Grows};
 ghost use Rattle.subtypep_app.specs.Replies.{IsAnswered};
 ghost use Rattle.subtypep_app.specs.Report.{AreReported, IsLineOf, IsReport, fault_body, fault_text, is_finding, line_text, place_text};
 ghost use Rattle.subtypep_app.specs.steps.Reporting.{LineAppended, status_for};
@@ -39,6 +39,7 @@ fn push_query<L: Ledger>(
     requires structures { structures_in decider.old.session ≡ env.now.structures }
     ensures budget { decider.new.budget ≡ decider.old.budget }
     ensures structures { structures_in decider.new.session ≡ structures_in decider.old.session }
+    ensures keeps { Grows (entries_in decider.old.session) (entries_in decider.new.session) }
     ensures line { IfOk result (LineAppended decider.old.budget env.now query.now out.old out.new) }
 {
     let line = line_of(alloc, env, decider, query)?;
@@ -58,6 +59,7 @@ fn push_queries<L: Ledger>(
     requires structures { structures_in decider.old.session ≡ env.now.structures }
     ensures budget { decider.new.budget ≡ decider.old.budget }
     ensures structures { structures_in decider.new.session ≡ structures_in decider.old.session }
+    ensures keeps { Grows (entries_in decider.old.session) (entries_in decider.new.session) }
     ensures lines { IfOk result
         (λ found. AreReported (IsLineOf decider.old.budget env.now) line_text is_finding queries.now found out.new) }
 {

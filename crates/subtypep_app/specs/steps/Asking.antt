@@ -1,6 +1,5 @@
 -- What the code's answers on a query stand for.
-use Rattle.std.specs.Prelude.{◌≡◌, Some, Result, Ok, Err}
-use Rattle.ls_spec.specs.Specifier.{Specifier}
+use Rattle.std.specs.Prelude.{◌≡◌, Result, Ok, Err}
 use Rattle.ls_grammar.specs.declared.refusal.Stop.{Stop}
 use Rattle.ls_grammar.specs.declared.refusal.Stop.TheVariants as stop
 use Rattle.subtypep_app.specs.declared.query.Question as code

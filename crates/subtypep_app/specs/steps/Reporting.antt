@@ -1,5 +1,5 @@
 -- What is appended for one query, and the status of a report.
-use Rattle.std.specs.Prelude.{◌≡◌, ℕ, Bool, true, false, List, ◌++◌, if◌then◌else◌}
+use Rattle.std.specs.Prelude.{◌≡◌, ℕ, Bool, List, ◌++◌, if◌then◌else◌}
 use Rattle.ls_env.specs.declared.query.Query.{Query}
 use Rattle.ls_env.specs.Environments.{Environment}
 use Rattle.subtypep_app.specs.declared.line.Line.{Line}

@@ -1,8 +1,7 @@
-use Rattle.std.proofs.Common.{◌≡◌, ◌∙◌, List, [], ◌∷◌, ap, sym, subst, refl}
+use Rattle.std.proofs.Common.{◌≡◌, ◌∙◌, List, ap, subst, refl}
 use Rattle.ls_object.specs.Universe.{Structures}
 use Rattle.ls_spec.specs.Specifier.{Specifier}
 use Rattle.ls_spec.specs.Meaning.{specifier}
-use Rattle.ls_spec.specs.Distinct.{distinct}
 use Rattle.ls_lists.specs.Walks.{sum}
 use Rattle.ls_intern.specs.Places.{at, specifiers_at}
 use Rattle.ls_intern.proofs.PlaceLemmas.{extends_none}

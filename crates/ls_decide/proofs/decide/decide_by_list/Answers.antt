@@ -1,4 +1,4 @@
-use Rattle.std.proofs.Common.{◌≡◌, ◌∙◌, List, ap, sym, subst}
+use Rattle.std.proofs.Common.{◌≡◌, ◌∙◌, List, sym, subst}
 use Rattle.ls_object.specs.Universe.{Structures}
 use Rattle.ls_object.specs.Inclusion.{IsInclusionOrder}
 use Rattle.ls_spec.specs.Specifier.{Specifier}

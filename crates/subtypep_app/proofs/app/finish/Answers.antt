@@ -1,4 +1,4 @@
-use Rattle.std.proofs.Common.{ℕ, ◌<◌, ◌≤◌, length, inl, inr, refl, arith}
+use Rattle.std.proofs.Common.{ℕ, ◌<◌, length, inl, inr, refl}
 use Rattle.std.proofs.lemmas.Bool.{cases_lt}
 use Rattle.subtypep_app.proofs.app.finish.Goals as goal
 

@@ -1,7 +1,11 @@
-use Rattle.std.proofs.Common.{◌≡◌, ◌||◌, ◌∙◌, subst, arith}
+use Rattle.std.proofs.Common.{◌≡◌, ◌||◌, [], refl, ◌∙◌, subst, arith}
+use Rattle.ls_cells.proofs.EntryLemmas.{grows_none, grows_both}
 use Rattle.subtypep_app.specs.steps.Reporting.{LineAppended}
 use Rattle.subtypep_app.proofs.ReportLemmas.{AreReported-appended}
 use Rattle.subtypep_app.proofs.report.push_queries.Goals as goal
+
+pub loop-query-init : goal.loop-query-init
+loop-query-init g c = (refl, refl, record { lines = []; right = tt; text = c.requires.empty; found_is = refl }, grows_none _)
 
 pub loop-query-preserved : goal.loop-query-preserved
 loop-query-preserved g c =
@@ -12,4 +16,12 @@ loop-query-preserved g c =
       AreReported-appended c.args.decider.now.budget c.args.env.now c.args.queries.now c.loop-query.query-index c.query-item.result c.loop-query.found c.in_ok-finding.finding c.if-found.found c.loop-query.out c.push_query.new.out
           c.loop-query-test.true c.loop-query.invariant.2
           (subst (λ q. LineAppended c.args.decider.now.budget c.args.env.now q c.loop-query.out c.push_query.new.out c.in_ok-finding.finding) c.query-item.is appended) is,
+      grows_both _ _ _ c.loop-query.invariant.3 c.push_query.ensures.keeps,
     )
+
+-- what was kept before the line that failed, and what it kept
+pub returns-in_err-finding-clause-keeps : goal.returns-in_err-finding-clause-keeps
+returns-in_err-finding-clause-keeps g c = grows_both _ _ _ c.loop-query.invariant.3 c.in_err-finding.ensures.keeps
+
+pub returns-clause-keeps : goal.returns-clause-keeps
+returns-clause-keeps g c = c.loop-query.invariant.3

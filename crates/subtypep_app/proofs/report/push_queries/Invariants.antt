@@ -1,5 +1,5 @@
 use Rattle.std.proofs.Common.{◌≡◌, take}
-use Rattle.ls_cells.specs.Kept.{structures_in}
+use Rattle.ls_cells.specs.Kept.{structures_in, entries_in, Grows}
 use Rattle.subtypep_app.specs.Report.{AreReported, IsLineOf, line_text, is_finding}
 use Rattle.subtypep_app.proofs.report.push_queries.Given as goal
 
@@ -8,3 +8,4 @@ invariant-loop-query g l =
     (l.decider.budget ≡ l.fn.decider.budget)
     × (structures_in l.decider.session ≡ structures_in l.fn.decider.session)
     × AreReported (IsLineOf l.fn.decider.budget l.env) line_text is_finding (take l.query-index l.queries) l.found l.out
+    × Grows (entries_in l.fn.decider.session) (entries_in l.decider.session)

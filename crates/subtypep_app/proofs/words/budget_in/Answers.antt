@@ -1,7 +1,7 @@
-use Rattle.std.proofs.Common.{◌≡◌, [], ◌∷◌, ap, subst, sym, ◌∙◌, MatchOption, ℕ, Option, Some, None}
+use Rattle.std.proofs.Common.{◌≡◌, [], ◌∷◌, ap, sym, ◌∙◌}
 use Rattle.std.specs.Prelude.{codes, string_bytes}
 use Rattle.std.proofs.lemmas.Slice.Eq.{bytes_eq-Decides}
-use Rattle.subtypep_app.specs.Words.{texts, MeanBudget}
+use Rattle.subtypep_app.specs.Words.{texts}
 use Rattle.subtypep_app.proofs.WordLemmas.{two_items, named_budget}
 use Rattle.subtypep_app.proofs.words.budget_in.Goals as goal
 
