@@ -1,6 +1,6 @@
 -- Bounds and sizes are within the limits.
-use Rattle.std.proofs.Common.{◌≡◌, ℕ, ◌≤◌, ◌^◌, List, [], ◌∷◌, Option, Some, None, Result, Ok, Err, arith}
-use Rattle.std.specs.Prelude.{nat_le, unsigned_abs, if◌then◌else◌, IfOk, IfSome}
+use Rattle.std.proofs.Common.{ℕ, ◌≤◌, ◌^◌, List, [], ◌∷◌, Option, Some, None, Result, Ok, Err, arith}
+use Rattle.std.specs.Prelude.{nat_le, unsigned_abs, IfOk, IfSome}
 use Rattle.std.proofs.lemmas.Bool.{cond_both}
 use Rattle.ls_object.specs.declared.rat.Rat.{Rat}
 use Rattle.ls_reader.specs.declared.datum.Span.{Span}
@@ -10,7 +10,6 @@ use Rattle.ls_reader.specs.declared.datum.Form.TheOpen.{Form-F}
 use Rattle.ls_tables.specs.declared.name.Builtin.{Builtin}
 use Rattle.ls_tables.specs.Builtins.{builtin_of}
 use Rattle.ls_spec.specs.declared.spec.RangeKind.{RangeKind}
-use Rattle.ls_spec.specs.declared.spec.Bound.{Bound}
 use Rattle.ls_spec.specs.declared.spec.Bound.TheVariants.{Free}
 use Rattle.ls_spec.specs.Membership.{is_of_range_kind}
 use Rattle.ls_spec.specs.Fits.{IsSmall, IsSmallBound}

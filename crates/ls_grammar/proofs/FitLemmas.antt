@@ -1,5 +1,5 @@
 -- A specifier that is answered is within the limits.
-use Rattle.std.proofs.Common.{◌≡◌, ℕ, zero, suc, ◌+◌, ◌≤◌, List, [], ◌∷◌, Result, Ok, Err, subst, arith, rules, lit≤}
+use Rattle.std.proofs.Common.{◌≡◌, ℕ, suc, ◌+◌, ◌≤◌, List, [], ◌∷◌, Result, Ok, Err, arith, rules, lit≤}
 use Rattle.std.specs.Prelude.{IfOk}
 use Rattle.std.specs.List.{AllByRecursion}
 use Rattle.ls_object.specs.Universe.{Structures}
@@ -15,7 +15,6 @@ use Rattle.ls_spec.specs.Fits.{HasSmallNumbers, HaveSmallNumbers, HasKnownNames,
 use Rattle.ls_env.specs.Environments.{Environment}
 use Rattle.ls_grammar.specs.declared.refusal.Stop.{Stop}
 use Rattle.ls_grammar.specs.BuiltinLevels.{built_atom}
-use Rattle.ls_grammar.specs.Denoting.{DenotesIn}
 use Rattle.ls_grammar.specs.steps.Answering.{Steps}
 use Rattle.ls_grammar.proofs.WholeLemmas.{whole_outcome, denotes_in}
 use Rattle.ls_grammar.proofs.KeptLemmas.{OfKnown, IsKept, kept_in}

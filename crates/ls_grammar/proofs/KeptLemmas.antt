@@ -1,6 +1,6 @@
 -- A property of specifiers that ranges, built-in names, objects, AND, OR, NOT and CONS keep holds of all that data
 -- denote.
-use Rattle.std.proofs.Common.{◌≡◌, ℕ, ℤ, pos, zero, suc, ◌-◌, ◌-ℤ◌, ◌≤◌, ◌^◌, List, [], ◌∷◌, length, Result, Ok, Err, arith, lit≤}
+use Rattle.std.proofs.Common.{ℕ, ℤ, pos, zero, suc, ◌-◌, ◌-ℤ◌, ◌≤◌, ◌^◌, List, [], ◌∷◌, length, Result, Ok, Err, arith, lit≤}
 use Rattle.std.proofs.Common.{subst, sym}
 use Rattle.std.specs.Prelude.{nat_le, neg_ℤ, unsigned_abs, if◌then◌else◌, Option, Some, None, IfOk, IfSome}
 use Rattle.std.specs.List.{AllByRecursion, list_all}

@@ -6,7 +6,7 @@ use Rattle.ls_reader.specs.declared.datum.Datum.{Datum}
 use Rattle.ls_tables.specs.declared.name.Builtin.{Builtin}
 use Rattle.ls_tables.specs.declared.name.Builtin.TheVariants as name
 use Rattle.ls_spec.specs.declared.spec.RangeKind.{RangeKind}
-use Rattle.ls_spec.specs.declared.spec.RangeKind.TheVariants.{Integer, Rational}
+use Rattle.ls_spec.specs.declared.spec.RangeKind.TheVariants.{Integer}
 use Rattle.ls_spec.specs.declared.spec.Bound.{Bound}
 use Rattle.ls_spec.specs.declared.spec.Bound.TheVariants.{Free, Incl}
 use Rattle.ls_spec.specs.Specifier.{Specifier, range_of}

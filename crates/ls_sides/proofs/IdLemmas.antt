@@ -1,5 +1,5 @@
 -- The look-up of a number.
-use Rattle.std.proofs.Common.{ℕ, zero, suc, ◌≡◌, ◌∙◌, ◌<◌, sym, ap, subst, arith, Bool, true, false, List, [], ◌∷◌, length, get_or}
+use Rattle.std.proofs.Common.{ℕ, zero, suc, ◌≡◌, ◌∙◌, ◌<◌, sym, ap, arith, List, [], ◌∷◌, length, get_or}
 use Rattle.std.specs.Prelude.{Option, Some, None, MatchOption, Contains, slice_get, nat_eq}
 use Rattle.std.specs.Option.{is_some}
 use Rattle.std.specs.List.{list_any, position}

@@ -1,6 +1,5 @@
-use Rattle.std.proofs.Common.{◌<◌, ◌≤◌, ◌∙◌, ap, sym, subst, arith}
+use Rattle.std.proofs.Common.{sym, subst, arith}
 use Rattle.ls_spec.specs.Meaning.{specifier}
-use Rattle.ls_grammar.specs.Saying.{weight_of}
 use Rattle.ls_grammar.specs.steps.Answering.{shown, StopsAs, Steps}
 use Rattle.ls_grammar.specs.steps.Running.{outcome}
 use Rattle.ls_grammar.proofs.OutcomeLemmas.{run_push, outcome_over, outcome_within}
