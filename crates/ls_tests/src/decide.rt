@@ -1,97 +1,113 @@
 // What decisions cost. The numbers are worked out by hand from the definition of the cost.
 
+use crate::asked::{Asked, is_told};
 use ls_decide::Session;
-use ls_object::{Boxed, Items, Symbol, Text};
-use ls_spec::{Bound, Point, RangeKind, Spec, SymClass};
+use ls_spec::Spec;
 use ls_structs::Tree;
-use std::alloc::{AllocError, Global};
-use std::test::Fail;
+use std::alloc::Global;
 
-/// INTEGER or RATIONAL.
-fn numbers(kind: RangeKind) -> Spec {
-    Spec::Range {
-        kind,
-        lo: Bound::Free,
-        hi: Bound::Free,
+/// Writes a cost that is told without a limit, and whether it is told under a budget of so much and of one less.
+fn push_cost(out: &mut String, told: u64, same: Option<u64>, less: Option<u64>) -> Option<()> {
+    write!(out, "{told}").ok()?;
+    if same != Some(told) || less.is_some() {
+        out.push_str(" not at its budget").ok()?;
     }
+    Some(())
 }
 
-/// The symbol of that name.
-fn named(alloc: Global, package: &str, name: &str) -> Result<Symbol, AllocError> {
-    Ok(Symbol {
-        package: Text::of(alloc, package)?,
-        name: Text::of(alloc, name)?,
-    })
-}
-
-/// The conses of a car and a cdr.
-fn conses(alloc: Global, car: Spec, cdr: Spec) -> Result<Spec, AllocError> {
-    Ok(Spec::ConsOf(Boxed::new(alloc, car)?, Boxed::new(alloc, cdr)?))
-}
-
-/// The conses of one keyword and, behind it, an integer, a symbol and NIL.
-fn tagged(alloc: Global, tag: &str) -> Result<Spec, AllocError> {
-    let null = Spec::Eql(Point::Sym(Symbol::nil(alloc)?));
-    let rest = conses(alloc, Spec::Symbols(SymClass::Any), null)?;
-    let rest = conses(alloc, numbers(RangeKind::Integer), rest)?;
-    let key = Spec::Eql(Point::Sym(named(alloc, "KEYWORD", tag)?));
-    conses(alloc, key, rest)
-}
-
-/// The OR of 63 such types.
-fn tagged_63(alloc: Global) -> Result<Spec, AllocError> {
-    let mut parts = Items::new(alloc);
-    let mut tag = Text::of(alloc, "K")?;
-    for _i in 0u8..63 {
-        tag.push_str("X")?;
-        parts.push(tagged(alloc, tag.as_str())?)?;
-    }
-    Ok(Spec::Or(parts))
-}
-
-/// LIST: NIL or a cons.
-fn lists(alloc: Global) -> Result<Spec, AllocError> {
-    let mut parts = Items::new(alloc);
-    parts.push(Spec::Eql(Point::Sym(Symbol::nil(alloc)?)))?;
-    parts.push(conses(alloc, Spec::All, Spec::All)?)?;
-    Ok(Spec::Or(parts))
-}
-
-/// Whether the cost of the pair is n: it is told under that budget, and not under one less.
-fn is_cost(alloc: Global, a: &Spec, b: &Spec, n: u16) -> Result<bool, AllocError> {
-    let session = Session::new(alloc, Tree::new(alloc))?;
-    let Some(less) = n.checked_sub(1) else {
-        return Ok(false);
+/// Writes what the pair of a list costs.
+pub(crate) fn push_pair_cost(alloc: Global, out: &mut String, list: &[Spec]) -> Option<()> {
+    let [a, b] = list else {
+        return None;
     };
-    let told = session.cost(a, b, u64::from(n))?;
-    let refused = session.cost(a, b, u64::from(less))?;
-    Ok(told == Some(u64::from(n)) && refused.is_none())
+    let session = Session::new(alloc, Tree::new(alloc)).ok()?;
+    let told = session.cost(a, b, 1 << 30).ok()??;
+    let less = told.checked_sub(1)?;
+    if told > 1 << 30 {
+        return None;
+    }
+    let same = session.cost(a, b, told).ok()?;
+    let refused = session.cost(a, b, less).ok()?;
+    push_cost(out, told, same, refused)
 }
 
-#[test]
-fn ranges_cost_six_objects(rt: HostRuntime) -> Result<(), Fail> {
+/// Writes what the first of a list costs where its members are asked for (TYPEP).
+pub(crate) fn push_type_cost(alloc: Global, out: &mut String, list: &[Spec]) -> Option<()> {
+    let s = list.first()?;
+    let session = Session::new(alloc, Tree::new(alloc)).ok()?;
+    let told = session.typep_cost(s, 1 << 30).ok()??;
+    let less = told.checked_sub(1)?;
+    if told > 1 << 30 {
+        return None;
+    }
+    let same = session.typep_cost(s, told).ok()?;
+    let refused = session.typep_cost(s, less).ok()?;
+    push_cost(out, told, same, refused)
+}
+
+/// Pairs of types and what they cost.
+const COSTS: [(&str, &str); 6] = [
     // 20, 6 for each of the two ranges, 2 for arrays and 1 for a cons
-    let rational = numbers(RangeKind::Rational);
-    assert!(rt; is_cost(rt.alloc(), &numbers(RangeKind::Integer), &rational, 35)?);
-    Ok(())
-}
-
-#[test]
-fn a_predicate_doubles_the_rows(rt: HostRuntime) -> Result<(), Fail> {
+    ("integer rational", "35"),
+    // the same, with one range
+    ("integer integer", "29"),
+    // 20, 3 for a point, 2 and 1
+    ("(eql 1) nil", "26"),
+    // 22 + 4 * 4 for the pair, and 29 for the one list of its cars and cdrs
+    (
+        "(cons (or integer symbol) (or integer symbol)) \
+        (or (cons integer integer) (cons integer symbol) (cons symbol integer) (cons symbol symbol))",
+        "67",
+    ),
     // twice 29 for the types, and 29 for what surely and what perhaps belongs to them
-    let alloc = rt.alloc();
-    let mut parts = Items::new(alloc);
-    parts.push(numbers(RangeKind::Integer))?;
-    parts.push(Spec::Satisfies(named(alloc, "COMMON-LISP", "EVENP")?))?;
-    assert!(rt; is_cost(alloc, &Spec::And(parts), &numbers(RangeKind::Integer), 87)?);
-    Ok(())
+    ("(and integer (satisfies evenp)) integer", "87"),
+    // 33 for the pair (20, 12 for vectors of two element types, and 1), 109 for (MOD 100) beside the table, and 103 for
+    // (SIGNED-BYTE 8), which stands in it
+    ("(vector (mod 100)) (vector (signed-byte 8))", "245"),
+];
+
+/// Types and what it costs to ask for their members.
+const TYPEP_COSTS: [(&str, &str); 4] = [
+    ("(vector (mod 100))", "109"),
+    ("(vector (signed-byte 8))", "103"),
+    // an element type is compared with the table once
+    ("(and (vector (mod 100)) (vector (mod 100)))", "109"),
+    // 109 for (MOD 100); and for the vectors of it 20, 78 for 13 ranges, 2 for kinds, 8 for vectors and 1
+    ("(vector (vector (mod 100)))", "218"),
+];
+
+/// The OR of so many conses of a keyword and, behind it, an integer, a symbol and NIL; then what it is included in.
+pub(crate) fn tagged(alloc: Global, count: u32) -> Option<String> {
+    let mut text = String::from_str(alloc, "(or").ok()?;
+    for n in 0..count {
+        write!(
+            text,
+            " (cons (eql :k{n}) (cons integer (cons symbol null)))"
+        )
+        .ok()?;
+    }
+    text.push_str(") (cons keyword list) ").ok()?;
+    Some(text)
 }
 
 #[test]
-fn more_than_63_atoms_take_a_second_word(rt: HostRuntime) -> Result<(), Fail> {
+fn decisions_cost_what_is_defined(rt: HostRuntime) {
+    for (text, want) in COSTS {
+        assert!(rt;
+            is_told(rt.alloc(), Asked::PairCost, text, want),
+            "at {text:?}"
+        );
+    }
+    for (text, want) in TYPEP_COSTS {
+        assert!(rt;
+            is_told(rt.alloc(), Asked::TypeCost, text, want),
+            "at {text:?}"
+        );
+    }
     // 2 * (22 + 212 * 8) for the types and 2 * 212 for their cars, each with 64 atoms; 29, 29, 26, 23 and 26
-    let alloc = rt.alloc();
-    let second = conses(alloc, Spec::Symbols(SymClass::Keyword), lists(alloc)?)?;
-    assert!(rt; is_cost(alloc, &tagged_63(alloc)?, &second, 3993)?);
-    Ok(())
+    let text = tagged(rt.alloc(), 63);
+    assert!(rt; text.is_some());
+    if let Some(text) = text {
+        assert!(rt; is_told(rt.alloc(), Asked::PairCost, &text, "3993"));
+    }
 }

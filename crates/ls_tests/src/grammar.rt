@@ -1,118 +1,32 @@
+// What data resolve to as specifiers, and how they are refused. What is expected is worked out by hand.
+
+use crate::print::write_spec;
+use crate::texts::data_of;
 use ls_env::Env;
-use ls_grammar::*;
-use ls_object::Rat;
-use ls_reader::read_text;
-use ls_spec::{Bound, Point, RangeKind, Spec};
-use std::alloc::AllocError;
-use std::test::*;
+use ls_grammar::{Stop, resolve};
+use ls_spec::Spec;
+use std::alloc::{AllocError, Global};
+use std::test::Fail;
 
-fn write_rat(out: &mut String, number: &Rat) -> Result<(), AllocError> {
-    write!(out, "{}", number.num)?;
-    if number.den != 1 {
-        write!(out, "/{}", number.den)?;
-    }
-    Ok(())
-}
-
-fn write_bound(out: &mut String, bound: &Bound) -> Result<(), AllocError> {
-    match bound {
-        Bound::Free => out.push_str("*"),
-        Bound::Incl(number) => write_rat(out, number),
-        Bound::Excl(number) => {
-            out.push_str("<")?;
-            write_rat(out, number)
-        }
-    }
-}
-
-fn write_range(
-    out: &mut String,
-    kind: RangeKind,
-    lo: &Bound,
-    hi: &Bound,
-) -> Result<(), AllocError> {
-    out.push_str(match kind {
-        RangeKind::Integer => "integer:",
-        RangeKind::Rational => "rational:",
-    })?;
-    write_bound(out, lo)?;
-    out.push_str("..")?;
-    write_bound(out, hi)
-}
-
-fn write_point(out: &mut String, point: &Point) -> Result<(), AllocError> {
-    match point {
-        Point::Number(number) => write_rat(out, number),
-        Point::Char(c) => write!(out, "char {}", *c as u32),
-        Point::Sym(symbol) => out.push_str(symbol.name.as_str()),
-    }
-}
-
-#[cycle(write)]
-fn write_all(out: &mut String, parts: &[Spec]) -> Result<(), AllocError> {
-    for part in parts {
-        out.push_str(" ")?;
-        write_spec(out, part)?;
-    }
-    out.push_str(")")
-}
-
-/// Writes a specifier: parts stand in brackets, and an exclusive bound behind `<`.
-#[cycle(write)]
-fn write_spec(out: &mut String, spec: &Spec) -> Result<(), AllocError> {
-    match spec {
-        Spec::All => out.push_str("all"),
-        Spec::Nothing => out.push_str("nothing"),
-        Spec::And(parts) => {
-            out.push_str("(and")?;
-            write_all(out, parts.as_slice())
-        }
-        Spec::Or(parts) => {
-            out.push_str("(or")?;
-            write_all(out, parts.as_slice())
-        }
-        Spec::Not(part) => {
-            out.push_str("not ")?;
-            write_spec(out, part.get())
-        }
-        Spec::Eql(point) => write_point(out, point),
-        Spec::Range { kind, lo, hi } => write_range(out, *kind, lo, hi),
-        Spec::Kind(kind) => write!(out, "{kind:?}"),
-        Spec::ConsOf(car, cdr) => {
-            out.push_str("(cons ")?;
-            write_spec(out, car.get())?;
-            out.push_str(" ")?;
-            write_spec(out, cdr.get())?;
-            out.push_str(")")
-        }
-        _ => out.push_str("other"),
-    }
-}
-
-/// What the datum resolved to, or the refusal with its column.
-fn describe(rt: &HostRuntime, found: &Result<Spec, Stop>) -> Result<String, AllocError> {
-    let mut out = String::new(rt.alloc());
+/// Writes what the datum resolved to, or the refusal with its column.
+fn describe(out: &mut String, found: &Result<Spec, Stop>) -> Result<(), AllocError> {
     match found {
-        Ok(spec) => write_spec(&mut out, spec)?,
-        Err(Stop::Refused(refusal)) => write!(
-            &mut out,
-            "{:?} {}",
-            refusal.kind, refusal.place.column
-        )?,
-        Err(Stop::Memory) => return Err(AllocError),
+        Ok(spec) => write_spec(out, spec),
+        Err(Stop::Refused(refusal)) => {
+            write!(out, "{:?} {}", refusal.kind, refusal.place.column)
+        }
+        Err(Stop::Memory) => Err(AllocError),
     }
-    Ok(out)
 }
 
 /// What the first datum of a text resolves to; None where it has none.
-fn resolution(rt: &HostRuntime, text: &str) -> Option<String> {
-    if text.len() > 1_000_000 {
-        return None;
-    }
-    let forms = read_text(rt.alloc(), text.as_bytes()).ok()?;
-    let env = Env::of_file(rt.alloc(), &forms).ok()?;
-    let found = resolve(rt.alloc(), &env, forms.as_slice().first()?);
-    describe(rt, &found).ok()
+fn resolution(alloc: Global, text: &str) -> Option<String> {
+    let data = data_of(alloc, text)?;
+    let env = Env::of_file(alloc, &data).ok()?;
+    let found = resolve(alloc, &env, data.as_slice().first()?);
+    let mut out = String::new(alloc);
+    describe(&mut out, &found).ok()?;
+    Some(out)
 }
 
 const RESOLVED: [(&str, &str); 32] = [
@@ -219,62 +133,61 @@ const REFUSED: [(&str, &str); 56] = [
 ];
 
 #[test]
-fn specifiers(rt: HostRuntime) -> Result<(), Fail> {
+fn data_resolve_or_are_refused(rt: HostRuntime) -> Result<(), Fail> {
     for (text, want) in RESOLVED {
-        let found = resolution(&rt, text).ok_or("the text is read")?;
+        let found = resolution(rt.alloc(), text).ok_or("the text is read")?;
         assert_eq!(rt; found.as_str(), want, "at {text:?}");
     }
-    Ok(())
-}
-
-#[test]
-fn refusals(rt: HostRuntime) -> Result<(), Fail> {
     for (text, want) in REFUSED {
-        let found = resolution(&rt, text).ok_or("the text is read")?;
+        let found = resolution(rt.alloc(), text).ok_or("the text is read")?;
         assert_eq!(rt; found.as_str(), want, "at {text:?}");
     }
     Ok(())
 }
 
 /// `open` so many times, an atom, and as many closing brackets.
-fn nested(rt: &HostRuntime, open: &str, depth: usize) -> Result<String, AllocError> {
-    let mut text = String::new(rt.alloc());
+fn nested(alloc: Global, open: &str, depth: usize) -> Option<String> {
+    let mut text = String::new(alloc);
     for _ in 0..depth {
-        text.push_str(open)?;
+        text.push_str(open).ok()?;
     }
-    text.push_str("t")?;
+    text.push_str("t").ok()?;
     for _ in 0..depth {
-        text.push_str(")")?;
+        text.push_str(")").ok()?;
     }
-    Ok(text)
+    Some(text)
 }
 
-#[test]
-fn depth(rt: HostRuntime) -> Result<(), Fail> {
-    let deepest = nested(&rt, "(and ", 255)?;
-    let found = resolution(&rt, &deepest).ok_or("the text is read")?;
-    assert!(rt; found.as_str().starts_with("(and (and "));
-    let too_deep = nested(&rt, "(and ", 256)?;
-    let found = resolution(&rt, &too_deep).ok_or("the text is read")?;
-    assert_eq!(rt; found.as_str(), "TooDeep 1281");
-    Ok(())
+/// What the first datum of a text nested so deep resolves to.
+fn nested_resolution(alloc: Global, depth: usize) -> Option<String> {
+    let text = nested(alloc, "(and ", depth)?;
+    resolution(alloc, &text)
 }
 
 /// MEMBER of so many objects.
-fn many(rt: &HostRuntime, count: usize) -> Result<String, AllocError> {
-    let mut text = String::from_str(rt.alloc(), "(member")?;
+fn many(alloc: Global, count: usize) -> Option<String> {
+    let mut text = String::from_str(alloc, "(member").ok()?;
     for _ in 0..count {
-        text.push_str(" a")?;
+        text.push_str(" a").ok()?;
     }
-    text.push_str(")")?;
-    Ok(text)
+    text.push_str(")").ok()?;
+    Some(text)
 }
 
-/// MEMBER itself takes one, so the last object finds no room, and all before it did.
+/// What MEMBER of so many objects resolves to.
+fn many_resolution(alloc: Global, count: usize) -> Option<String> {
+    let text = many(alloc, count)?;
+    resolution(alloc, &text)
+}
+
+/// MEMBER itself takes one of the room, so the last object finds none, and all before it did.
 #[test]
-fn room(rt: HostRuntime) -> Result<(), Fail> {
-    let text = many(&rt, 262_144)?;
-    let found = resolution(&rt, &text).ok_or("the text is read")?;
+fn depth_and_room(rt: HostRuntime) -> Result<(), Fail> {
+    let found = nested_resolution(rt.alloc(), 255).ok_or("the text is read")?;
+    assert!(rt; found.as_str().starts_with("(and (and "));
+    let found = nested_resolution(rt.alloc(), 256).ok_or("the text is read")?;
+    assert_eq!(rt; found.as_str(), "TooDeep 1281");
+    let found = many_resolution(rt.alloc(), 262_144).ok_or("the text is read")?;
     assert_eq!(rt; found.as_str(), "TooManyNodes 524295");
     Ok(())
 }

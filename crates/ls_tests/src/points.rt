@@ -1,30 +1,28 @@
 // What the representatives of small lists of atoms are in and outside. What is expected is worked out by hand.
 
-ghost use Rattle.std.specs.Prelude.{IfOk, IfSome};
+ghost use Rattle.std.specs.Prelude.{IsTrue, IfOk};
 ghost use Rattle.std.specs.List.{AllByRecursion};
-ghost use Rattle.ls_spec.specs.Fits.{IsSmall};
 ghost use Rattle.ls_spec.specs.Meaning.{specifier};
 ghost use Rattle.ls_points.specs.Classes.{IsFitAtom, IsFitAtomOf};
 
-use ls_object::{Items, Kind, Object, Parents, Rat, Shape, Symbol, Text};
+use crate::asked::{Asked, is_told};
+use ls_object::{Items, Object, Parents, Symbol, Text};
 use ls_points::*;
-use ls_spec::{
-    Bound, CharClass, LARGEST_DENOMINATOR, LARGEST_NUMERATOR, Point, RangeKind, Regions, Spec,
-    SymClass, is_included_within,
-};
+use ls_spec::{Regions, Spec, is_included_within};
 use std::alloc::{AllocError, Global};
-use std::test::*;
 
-/// A list of two atoms.
-fn two(alloc: Global, first: Spec, second: Spec) -> Result<Items<Spec>, AllocError>
-    requires first { IsFitAtom (specifier first) }
-    requires second { IsFitAtom (specifier second) }
-    ensures { IfOk result (λ atoms. AllByRecursion (λ a. IsFitAtom (specifier a)) atoms) }
+/// Whether it is an atom within the limits.
+fn is_fit(alloc: Global, spec: &Spec) -> bool
+    ensures { IsTrue result → IsFitAtom (specifier spec.now) }
 {
-    let mut atoms = Items::new(alloc);
-    atoms.push(first)?;
-    atoms.push(second)?;
-    Ok(atoms)
+    match spec {
+        Spec::All => false,
+        Spec::Nothing => false,
+        Spec::And(_) => false,
+        Spec::Or(_) => false,
+        Spec::Not(_) => false,
+        spec => spec.fits(&Parents::new(alloc)),
+    }
 }
 
 /// Whether some object is in the first atom or outside it, and in the second or outside it, as asked.
@@ -44,152 +42,128 @@ fn has<R: Regions>(
     false
 }
 
-/// (RATIONAL (0) (1))
-fn open_unit() -> Spec
-    ensures { IsFitAtom (specifier result) }
+/// Writes whether there are objects in both atoms, in the first alone, in the second alone, and in neither.
+fn push_seen<R: Regions>(
+    out: &mut String,
+    regions: &R,
+    reps: &Items<Object>,
+    atoms: (&R::Atom, &R::Atom),
+) -> Option<()> {
+    for inside in [(true, true), (true, false), (false, true), (false, false)] {
+        out.push_str(if has(regions, reps, atoms, inside) {
+            "T"
+        } else {
+            "-"
+        })
+        .ok()?;
+    }
+    Some(())
+}
+
+/// A class of objects.
+#[derive(Clone, Copy)]
+pub(crate) enum Class {
+    Numbers,
+    Characters,
+    Symbols,
+    Opaque,
+}
+
+/// The representatives of a class for two atoms.
+fn reps_of(alloc: Global, class: Class, atoms: &Items<Spec>) -> Option<Items<Object>>
+    requires { AllByRecursion (λ a. IsFitAtom (specifier a)) atoms.now }
 {
-    Spec::Range {
-        kind: RangeKind::Rational,
-        lo: Bound::Excl(Rat::integer(0)),
-        hi: Bound::Excl(Rat::integer(1)),
+    match class {
+        Class::Numbers => NumberRegions.reps(alloc, atoms).ok(),
+        Class::Characters => CharRegions.reps(alloc, atoms).ok(),
+        Class::Symbols => SymbolRegions.reps(alloc, atoms).ok(),
+        Class::Opaque => OpaqueRegions.reps(alloc, atoms).ok(),
     }
 }
 
-/// INTEGER
-fn integers() -> Spec
-    ensures { IsFitAtom (specifier result) }
-{
-    Spec::Range {
-        kind: RangeKind::Integer,
-        lo: Bound::Free,
-        hi: Bound::Free,
+/// Writes whether representatives of a class are in both atoms of a list, in one of them alone, and in neither.
+pub(crate) fn push_shares(
+    alloc: Global,
+    out: &mut String,
+    class: Class,
+    list: &Items<Spec>,
+) -> Option<()> {
+    let [first, second] = list.as_slice() else {
+        return None;
+    };
+    if !is_fit(alloc, first) || !is_fit(alloc, second) {
+        return None;
+    }
+    let reps = reps_of(alloc, class, list)?;
+    match class {
+        Class::Numbers => push_seen(out, &NumberRegions, &reps, (first, second)),
+        Class::Characters => push_seen(out, &CharRegions, &reps, (first, second)),
+        Class::Symbols => push_seen(out, &SymbolRegions, &reps, (first, second)),
+        Class::Opaque => push_seen(out, &OpaqueRegions, &reps, (first, second)),
     }
 }
 
-#[test]
-fn a_ratio_stands_for_an_open_gap(rt: HostRuntime) -> Result<(), Fail> {
-    let atoms = two(rt.alloc(), open_unit(), integers())?;
-    let reps = NumberRegions.reps(rt.alloc(), &atoms)?;
-    let asked = (&open_unit(), &integers());
-    assert!(rt; has(&NumberRegions, &reps, asked, (true, false)));
-    assert!(rt; has(&NumberRegions, &reps, asked, (false, true)));
-    assert!(rt; has(&NumberRegions, &reps, asked, (false, false)));
-    assert!(rt; !has(&NumberRegions, &reps, asked, (true, true)));
-    Ok(())
+/// Writes whether each number of the first atom of a list is in the second.
+pub(crate) fn push_within(alloc: Global, out: &mut String, list: &Items<Spec>) -> Option<()> {
+    let [first, second] = list.as_slice() else {
+        return None;
+    };
+    if !is_fit(alloc, first) || !is_fit(alloc, second) {
+        return None;
+    }
+    let within = is_included_within(alloc, &NumberRegions, list, first, second).ok()?;
+    write!(out, "{within}").ok()
 }
 
-/// The number `num / den`, if it is within the limits on specifiers.
-fn small(num: i128, den: u128) -> Option<Rat>
-    ensures { IfSome result IsSmall }
-{
-    let r = Rat::new(num, den)?;
-    if r.num.unsigned_abs() <= LARGEST_NUMERATOR && r.den <= LARGEST_DENOMINATOR {
-        Some(r)
-    } else {
-        None
+/// A class, two atoms, and whether there are representatives in both, in the first, in the second and in neither.
+const SEEN: [(Class, &str, &str); 12] = [
+    (Class::Numbers, "(rational (0) (1)) integer", "-TTT"),
+    (Class::Numbers, "(eql 1/3) (rational 1/3 (1/2))", "T-TT"),
+    (Class::Numbers, "integer rational", "T-T-"),
+    (Class::Numbers, "(integer 0) (integer * 0)", "TTTT"),
+    (Class::Characters, "base-char standard-char", "TT-T"),
+    (Class::Characters, "(eql #\\a) standard-char", "T-TT"),
+    (Class::Characters, "character (eql #\\U+80)", "TT--"),
+    (Class::Symbols, "keyword null", "-TTT"),
+    (Class::Symbols, "symbol keyword", "TT--"),
+    (Class::Symbols, "(eql :a) keyword", "T-TT"),
+    (Class::Opaque, "stream structure-object", "-TTT"),
+    (Class::Opaque, "hash-table package", "-TTT"),
+];
+
+/// Pairs of atoms, and whether each number of the first is in the second.
+const WITHIN: [(&str, &str); 5] = [
+    ("integer rational", "true"),
+    ("rational integer", "false"),
+    ("(rational (0) (1)) integer", "false"),
+    ("(integer (0) (2)) (eql 1)", "true"),
+    ("t integer", "none"),
+];
+
+#[test]
+fn representatives_stand_for_each_share(rt: HostRuntime) {
+    for (class, text, want) in SEEN {
+        assert!(rt;
+            is_told(rt.alloc(), Asked::Shares(class), text, want),
+            "at {text:?}"
+        );
+    }
+    for (text, want) in WITHIN {
+        assert!(rt;
+            is_told(rt.alloc(), Asked::Within, text, want),
+            "at {text:?}"
+        );
     }
 }
 
-/// (EQL r)
-fn point(r: Rat) -> Spec
-    requires { IsSmall r }
-    ensures { IsFitAtom (specifier result) }
-{
-    Spec::Eql(Point::Number(r))
-}
-
-/// (RATIONAL lo (hi))
-fn half_open(lo: Rat, hi: Rat) -> Spec
-    requires lo { IsSmall lo }
-    requires hi { IsSmall hi }
-    ensures { IsFitAtom (specifier result) }
-{
-    Spec::Range {
-        kind: RangeKind::Rational,
-        lo: Bound::Incl(lo),
-        hi: Bound::Excl(hi),
-    }
-}
-
-#[test]
-fn a_bound_a_gap_and_the_rest_have_numbers(rt: HostRuntime) -> Result<(), Fail> {
-    let third = small(1, 3).ok_or("a third is small")?;
-    let half = small(1, 2).ok_or("a half is small")?;
-    let atoms = two(rt.alloc(), point(third), half_open(third, half))?;
-    let reps = NumberRegions.reps(rt.alloc(), &atoms)?;
-    let asked = (&point(third), &half_open(third, half));
-    assert!(rt; has(&NumberRegions, &reps, asked, (true, true)));
-    assert!(rt; has(&NumberRegions, &reps, asked, (false, true)));
-    assert!(rt; has(&NumberRegions, &reps, asked, (false, false)));
-    Ok(())
-}
-
-/// The character of that code, STANDARD-CHAR and BASE-CHAR.
-fn class(class: CharClass) -> Spec
-    ensures { IsFitAtom (specifier result) }
-{
-    Spec::Chars(class)
-}
-
-#[test]
-fn characters_stand_for_each_class(rt: HostRuntime) -> Result<(), Fail> {
-    let atoms = two(
-        rt.alloc(),
-        class(CharClass::Base),
-        class(CharClass::Standard),
-    )?;
-    let reps = CharRegions.reps(rt.alloc(), &atoms)?;
-    let asked = (&class(CharClass::Base), &class(CharClass::Standard));
-    assert!(rt; has(&CharRegions, &reps, asked, (true, true)));
-    assert!(rt; has(&CharRegions, &reps, asked, (true, false)));
-    assert!(rt; has(&CharRegions, &reps, asked, (false, false)));
-    Ok(())
-}
-
-/// SYMBOL or KEYWORD
-fn symbols(class: SymClass) -> Spec
-    ensures { IsFitAtom (specifier result) }
-{
-    Spec::Symbols(class)
-}
-
-#[test]
-fn symbols_stand_for_keywords_and_others(rt: HostRuntime) -> Result<(), Fail> {
-    let nil = Spec::Eql(Point::Sym(Symbol::nil(rt.alloc())?));
-    let atoms = two(
-        rt.alloc(),
-        symbols(SymClass::Keyword),
-        nil.copy(rt.alloc())?,
-    )?;
-    let reps = SymbolRegions.reps(rt.alloc(), &atoms)?;
-    let asked = (&symbols(SymClass::Keyword), &nil);
-    assert!(rt; has(&SymbolRegions, &reps, asked, (true, false)));
-    assert!(rt; has(&SymbolRegions, &reps, asked, (false, true)));
-    assert!(rt; has(&SymbolRegions, &reps, asked, (false, false)));
-    Ok(())
-}
-
-/// The opaque objects of the kind.
-fn kind(kind: Kind) -> Spec
-    ensures { IsFitAtom (specifier result) }
-{
-    Spec::Kind(kind)
-}
-
-#[test]
-fn opaque_objects_stand_for_each_kind(rt: HostRuntime) -> Result<(), Fail> {
-    let atoms = two(rt.alloc(), kind(Kind::Stream), Spec::StructAny)?;
-    let reps = OpaqueRegions.reps(rt.alloc(), &atoms)?;
-    let asked = (&kind(Kind::Stream), &Spec::StructAny);
-    assert!(rt; has(&OpaqueRegions, &reps, asked, (true, false)));
-    assert!(rt; has(&OpaqueRegions, &reps, asked, (false, true)));
-    assert!(rt; has(&OpaqueRegions, &reps, asked, (false, false)));
-    Ok(())
+/// The symbol POINT.
+fn point(alloc: Global) -> Result<Symbol, AllocError> {
+    Symbol::of_common_lisp(alloc, Text::of(alloc, "POINT")?)
 }
 
 /// A list of one structure type.
 fn one_type(alloc: Global) -> Result<Parents, AllocError> {
-    let name = Symbol::of_common_lisp(alloc, Text::of(alloc, "POINT")?)?;
+    let name = point(alloc)?;
     let mut parents = Parents::new(alloc);
     if !parents.contains(&name) {
         parents.push(name, None)?;
@@ -208,61 +182,39 @@ fn named(alloc: Global, parents: &Parents, name: &Symbol) -> Result<Items<Spec>,
     Ok(atoms)
 }
 
-#[test]
-fn a_structure_stands_for_its_type(rt: HostRuntime) -> Result<(), Fail> {
-    let name = Symbol::of_common_lisp(rt.alloc(), Text::of(rt.alloc(), "POINT")?)?;
-    let parents = one_type(rt.alloc())?;
-    let atoms = named(rt.alloc(), &parents, &name)?;
-    let regions = StructRegions::new(parents);
-    let reps = regions.reps(rt.alloc(), &atoms)?;
-    assert!(rt; !reps.is_empty());
-    for object in reps.as_slice() {
-        assert!(rt; regions.covers(object));
-        assert!(rt; regions.holds(&Spec::StructIs(name.copy()?), object));
-    }
-    Ok(())
-}
-
-#[test]
-fn a_structure_stands_for_all_types(rt: HostRuntime) -> Result<(), Fail> {
-    let regions = StructRegions::new(one_type(rt.alloc())?);
-    let mut atoms = Items::new(rt.alloc());
-    atoms.push(Spec::StructAny)?;
-    let reps = regions.reps(rt.alloc(), &atoms)?;
-    assert!(rt; !reps.is_empty());
-    for object in reps.as_slice() {
-        assert!(rt; regions.covers(object));
-        assert!(rt; regions.holds(&Spec::StructAny, object));
-    }
-    Ok(())
-}
-
-/// RATIONAL
-fn rationals() -> Spec
-    ensures { IsFitAtom (specifier result) }
-{
-    Spec::Range {
-        kind: RangeKind::Rational,
-        lo: Bound::Free,
-        hi: Bound::Free,
-    }
-}
-
-/// Whether each number of the first atom is in the second.
-fn is_first_within_second(alloc: Global, atoms: &Items<Spec>) -> Result<bool, Fail>
-    requires { AllByRecursion (λ a. IsFitAtom (specifier a)) atoms.now }
-{
-    let [first, second] = atoms.as_slice() else {
-        return Err(Fail::from("there are two atoms"));
+/// Whether there are some objects, each of them covered and in the first atom of a list.
+fn are_all_in<R: Regions>(regions: &R, reps: &Items<Object>, atoms: &[R::Atom]) -> bool {
+    let Some(atom) = atoms.first() else {
+        return false;
     };
-    Ok(is_included_within(alloc, &NumberRegions, atoms, first, second)?)
+    for object in reps.as_slice() {
+        if !regions.covers(object) || !regions.holds(atom, object) {
+            return false;
+        }
+    }
+    !reps.is_empty()
+}
+
+/// Whether the representatives of structures for one structure type are structures of it.
+fn stand_for_their_type(alloc: Global) -> Result<bool, AllocError> {
+    let parents = one_type(alloc)?;
+    let atoms = named(alloc, &parents, &point(alloc)?)?;
+    let regions = StructRegions::new(parents);
+    let reps = regions.reps(alloc, &atoms)?;
+    Ok(are_all_in(&regions, &reps, atoms.as_slice()))
+}
+
+/// Whether the representatives of structures for STRUCTURE-OBJECT are structures.
+fn stand_for_all_types(alloc: Global) -> Result<bool, AllocError> {
+    let regions = StructRegions::new(one_type(alloc)?);
+    let mut atoms = Items::new(alloc);
+    atoms.push(Spec::StructAny)?;
+    let reps = regions.reps(alloc, &atoms)?;
+    Ok(are_all_in(&regions, &reps, atoms.as_slice()))
 }
 
 #[test]
-fn integers_are_rationals_and_no_ratio_is_an_integer(rt: HostRuntime) -> Result<(), Fail> {
-    let atoms = two(rt.alloc(), integers(), rationals())?;
-    assert!(rt; is_first_within_second(rt.alloc(), &atoms)?);
-    let atoms = two(rt.alloc(), open_unit(), integers())?;
-    assert!(rt; !is_first_within_second(rt.alloc(), &atoms)?);
-    Ok(())
+fn structures_stand_for_their_types(rt: HostRuntime) {
+    assert_eq!(rt; stand_for_their_type(rt.alloc()).ok(), Some(true));
+    assert_eq!(rt; stand_for_all_types(rt.alloc()).ok(), Some(true));
 }

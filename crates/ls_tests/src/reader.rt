@@ -1,145 +1,25 @@
-use ls_reader::*;
-use sqlite_items::Items;
-use std::alloc::AllocError;
-use std::test::*;
+// What texts read as. What is expected is worked out by hand from the standard's chapter 2.
 
-/// Writes data, each with a space before it, and with its span if that is asked for.
-#[cycle(describe)]
-fn describe_all(out: &mut String, data: &[Datum], spans: bool) -> Result<(), AllocError> {
-    for datum in data {
-        describe(out, datum, spans)?;
-    }
-    Ok(())
-}
+use crate::print_data::{describe, describe_all};
+use ls_object::Items;
+use ls_reader::{Datum, read_text};
+use std::alloc::Global;
+use std::test::Fail;
 
-/// Writes a datum as `FORM@START-END,LINE:COLUMN` or as `FORM`, with a space before it.
-#[cycle(describe)]
-fn describe(out: &mut String, datum: &Datum, spans: bool) -> Result<(), AllocError> {
-    out.push_str(" ")?;
-    describe_form(out, &datum.form, spans)?;
-    if spans {
-        let Span {
-            start,
-            end,
-            line,
-            column,
-        } = datum.span;
-        write!(out, "@{start}-{end},{line}:{column}")?;
-    }
-    Ok(())
-}
-
-/// Writes a form that has data in it, or another one.
-#[cycle(describe)]
-fn describe_form(out: &mut String, form: &Form, spans: bool) -> Result<(), AllocError> {
-    match form {
-        Form::List(items) => {
-            out.push_str("(")?;
-            describe_all(out, items.as_slice(), spans)?;
-            out.push_str(")")
-        }
-        Form::Dotted(items, last) => {
-            out.push_str("(")?;
-            describe_all(out, items.as_slice(), spans)?;
-            out.push_str(" .")?;
-            describe(out, last.get(), spans)?;
-            out.push_str(")")
-        }
-        Form::Vector(items) => {
-            out.push_str("#(")?;
-            describe_all(out, items.as_slice(), spans)?;
-            out.push_str(")")
-        }
-        Form::Quote(of) => describe_prefixed(out, "'", of.get(), spans),
-        Form::Back(of) => describe_prefixed(out, "`", of.get(), spans),
-        Form::Comma(of) => describe_prefixed(out, ",", of.get(), spans),
-        Form::Splice(of) => describe_prefixed(out, ",@", of.get(), spans),
-        Form::FunctionOf(of) => describe_prefixed(out, "#'", of.get(), spans),
-        form => describe_atom(out, form),
-    }
-}
-
-/// Writes a prefix and its datum.
-#[cycle(describe)]
-fn describe_prefixed(
-    out: &mut String,
-    prefix: &str,
-    of: &Datum,
-    spans: bool,
-) -> Result<(), AllocError> {
-    out.push_str(prefix)?;
-    describe(out, of, spans)
-}
-
-/// Writes a form without data in it.
-fn describe_atom(out: &mut String, form: &Form) -> Result<(), AllocError> {
-    match form {
-        Form::Symbol(symbol) => describe_symbol(out, symbol.package.as_str(), symbol.name.as_str()),
-        Form::Number(Literal::Value(small)) => {
-            write!(out, "{}/{}", small.value.num, small.value.den)
-        }
-        Form::Number(Literal::Wide) => out.push_str("wide"),
-        Form::Float(FloatFormat::Single) => out.push_str("single"),
-        Form::Float(FloatFormat::Double) => out.push_str("double"),
-        Form::Char(c) => write!(out, "#{}", *c as u32),
-        Form::Str(text) => write!(out, "<{}>", text.as_str()),
-        Form::Bits(count) => write!(out, "#*{count}"),
-        _ => out.push_str("odd"),
-    }
-}
-
-/// Writes a symbol as `NAME`, `:NAME` or `PACKAGE::NAME`.
-fn describe_symbol(out: &mut String, package_name: &str, name: &str) -> Result<(), AllocError> {
-    if package_name == "KEYWORD" {
-        out.push_str(":")?;
-    } else if package_name != "COMMON-LISP" {
-        out.push_str(package_name)?;
-        out.push_str("::")?;
-    }
-    out.push_str(name)
-}
-
-/// The data of a text, or its fault; None where the text is too long.
-fn read(rt: &HostRuntime, text: &[u8]) -> Option<Result<Items<Datum>, ReadError>> {
+/// The data of a text; None where it is not read.
+fn read(alloc: Global, text: &[u8]) -> Option<Items<Datum>> {
     if text.len() > 16_777_216 {
         return None;
     }
-    Some(read_text(rt.alloc(), text))
+    read_text(alloc, text).ok()
 }
 
 /// What a text reads as, written out; None where it is not read.
-fn reading(rt: &HostRuntime, text: &[u8], spans: bool) -> Option<String> {
-    let data = read(rt, text)?.ok()?;
-    let mut out = String::new(rt.alloc());
+fn reading(alloc: Global, text: &str, spans: bool) -> Option<String> {
+    let data = read(alloc, text.as_bytes())?;
+    let mut out = String::new(alloc);
     describe_all(&mut out, data.as_slice(), spans).ok()?;
     Some(out)
-}
-
-/// The kind of a fault, and its span; None for want of memory.
-fn kind_of(error: &ReadError) -> Option<(&'static str, Span)> {
-    Some(match error {
-        ReadError::NotUtf8(at) => ("not utf-8", *at),
-        ReadError::BadToken(at) => ("bad token", *at),
-        ReadError::StrayClose(at) => ("stray close", *at),
-        ReadError::Unclosed(at) => ("unclosed", *at),
-        ReadError::BadDot(at) => ("bad dot", *at),
-        ReadError::TooDeep(at) => ("too deep", *at),
-        ReadError::ZeroDenominator(at) => ("zero denominator", *at),
-        ReadError::Label(at) => ("label", *at),
-        ReadError::Memory => return None,
-    })
-}
-
-/// The fault of a text: its kind, byte, line and column, with the end of its span.
-fn fault(rt: &HostRuntime, text: &[u8]) -> (&'static str, u32, u32, u32, u32) {
-    match read(rt, text) {
-        Some(Err(error)) => match kind_of(&error) {
-            Some((kind, at)) => (kind, at.start, at.end, at.line, at.column),
-            None => ("no memory", 0, 0, 0, 0),
-        },
-        Some(Ok(_)) => ("none", 0, 0, 0, 0),
-        None => ("too long", 0, 0, 0, 0),
-    }
 }
 
 /// Texts and their data, with their spans.
@@ -248,152 +128,33 @@ const FORMS: [(&str, &str); 26] = [
 ];
 
 #[test]
-fn data(rt: HostRuntime) -> Result<(), Fail> {
+fn texts_are_read(rt: HostRuntime) -> Result<(), Fail> {
     for (text, want) in DATA {
-        let found = reading(&rt, text.as_bytes(), true).ok_or("the text is read")?;
+        let found = reading(rt.alloc(), text, true).ok_or("the text is read")?;
         assert_eq!(rt; found.as_str(), want, "at {text:?}");
     }
-    Ok(())
-}
-
-#[test]
-fn forms(rt: HostRuntime) -> Result<(), Fail> {
     for (text, want) in FORMS {
-        let found = reading(&rt, text.as_bytes(), false).ok_or("the text is read")?;
+        let found = reading(rt.alloc(), text, false).ok_or("the text is read")?;
         assert_eq!(rt; found.as_str(), want, "at {text:?}");
     }
     Ok(())
-}
-
-/// Texts and their faults: the kind, the byte, the line and the column.
-const FAULTS: [(&[u8], &str, u32, u32, u32); 67] = [
-    (b"(subtypep 'integer", "unclosed", 0, 1, 1),
-    (b"'", "unclosed", 0, 1, 1),
-    (b"a\n (b\n'", "unclosed", 6, 3, 1),
-    (b"(a (b) (c ", "unclosed", 7, 1, 8),
-    (b"(subtypep 'integer 't))", "stray close", 22, 1, 23),
-    (b"(a ')", "stray close", 4, 1, 5),
-    (b"(a ,)", "stray close", 4, 1, 5),
-    (b"(a #+)", "stray close", 5, 1, 6),
-    (b"(a #+b)", "stray close", 6, 1, 7),
-    (b"(a #.)", "stray close", 5, 1, 6),
-    (b") .", "stray close", 0, 1, 1),
-    (b"a\n)\n(", "stray close", 2, 2, 1),
-    (b"(a . )", "bad dot", 5, 1, 6),
-    (b".", "bad dot", 0, 1, 1),
-    (b"(. a)", "bad dot", 1, 1, 2),
-    (b"(#+(or) a . b)", "bad dot", 10, 1, 11),
-    (b"(a . b . c)", "bad dot", 7, 1, 8),
-    (b"(a . . c)", "bad dot", 5, 1, 6),
-    (b"(a . b c)", "bad dot", 7, 1, 8),
-    (b"(a . b 'c)", "bad dot", 7, 1, 8),
-    (b"(a . b (", "bad dot", 7, 1, 8),
-    (b"(a . b #+(and) c)", "bad dot", 15, 1, 16),
-    (b"(a . #+(or) b)", "bad dot", 13, 1, 14),
-    (b"#(a . b)", "bad dot", 4, 1, 5),
-    (b"(a '. b)", "bad dot", 4, 1, 5),
-    (b"(a . b \"x", "unclosed", 7, 1, 8),
-    (b"(a . b 1/0)", "zero denominator", 7, 1, 8),
-    (b"(a . b #1=c)", "label", 7, 1, 8),
-    (b"1/0", "zero denominator", 0, 1, 1),
-    (b"(a 99999999999999999999/00)", "zero denominator", 3, 1, 4),
-    (b"#1=a", "label", 0, 1, 1),
-    (b"(#22# )", "label", 1, 1, 2),
-    (b"a::", "bad token", 0, 1, 1),
-    (b"(a b:c:d)", "bad token", 3, 1, 4),
-    (b":", "bad token", 0, 1, 1),
-    (b"::a", "bad token", 0, 1, 1),
-    (b"a:::b", "bad token", 0, 1, 1),
-    (b"||:a", "bad token", 0, 1, 1),
-    (b"(a ...)", "bad token", 3, 1, 4),
-    (b"ab\x01", "bad token", 2, 1, 3),
-    (b"#", "bad token", 0, 1, 1),
-    (b"a #12 b", "bad token", 2, 1, 3),
-    (b"#<a>", "bad token", 0, 1, 1),
-    (b"#1'a", "bad token", 0, 1, 1),
-    (b"#b2", "bad token", 0, 1, 1),
-    (b"#x", "bad token", 0, 1, 1),
-    (b"#b#1", "bad token", 0, 1, 1),
-    (b"#x1.", "bad token", 0, 1, 1),
-    (b"#b|1|", "bad token", 0, 1, 1),
-    (b"#*012", "bad token", 0, 1, 1),
-    (b"#o7/0", "zero denominator", 0, 1, 1),
-    (b"#:a::", "bad token", 0, 1, 1),
-    (b"#:1/0", "zero denominator", 0, 1, 1),
-    (b"(x #-(or (foo)) y)", "bad token", 3, 1, 4),
-    (b"#+\"x\" a", "bad token", 0, 1, 1),
-    (b"#+(not a b) c", "bad token", 0, 1, 1),
-    (b"#+(or a 1) c", "bad token", 0, 1, 1),
-    (b"#\\", "unclosed", 0, 1, 1),
-    (b"#|a #| b", "unclosed", 4, 1, 5),
-    (b"#| #| |# x", "unclosed", 0, 1, 1),
-    (b"#|#|#||#|#\n#|", "unclosed", 11, 2, 1),
-    (b"a #b|1", "unclosed", 2, 1, 3),
-    (b"x \\", "unclosed", 2, 1, 3),
-    (b"(a b|c", "unclosed", 3, 1, 4),
-    (b"a\xff", "not utf-8", 1, 1, 2),
-    (b"(a\n\xc3\xa9\xff", "not utf-8", 5, 2, 2),
-    (b"1/0 \xe2\x82", "not utf-8", 4, 1, 5),
-];
-
-#[test]
-fn faults(rt: HostRuntime) {
-    for (text, kind, byte, line, column) in FAULTS {
-        assert_eq!(rt;
-            fault(&rt, text),
-            (kind, byte, byte, line, column),
-            "at {text:?}"
-        );
-    }
 }
 
 /// A front, a part so often, and a back.
 fn repeated(
-    rt: &HostRuntime,
+    alloc: Global,
     front: &[u8],
     part: &[u8],
     count: usize,
     back: &[u8],
-) -> Result<Vec<u8>, AllocError> {
-    let mut text = Vec::new(rt.alloc());
-    text.extend_from_slice(front)?;
+) -> Option<Vec<u8>> {
+    let mut text = Vec::new(alloc);
+    text.extend_from_slice(front).ok()?;
     for _ in 0..count {
-        text.extend_from_slice(part)?;
+        text.extend_from_slice(part).ok()?;
     }
-    text.extend_from_slice(back)?;
-    Ok(text)
-}
-
-/// A prefix so often, an atom, and closing brackets.
-fn nested(
-    rt: &HostRuntime,
-    open: &[u8],
-    depth: usize,
-    close: usize,
-) -> Result<Vec<u8>, AllocError> {
-    let mut text = repeated(rt, b"", open, depth, b"a")?;
-    for _ in 0..close {
-        text.push(b')')?;
-    }
-    Ok(text)
-}
-
-#[test]
-fn depth(rt: HostRuntime) -> Result<(), Fail> {
-    let prefixes: [(&[u8], usize, u32); 4] = [
-        (b"(", 256, 1),
-        (b"'", 0, 1),
-        (b"#(", 256, 2),
-        (b",@", 0, 2),
-    ];
-    for (open, close, width) in prefixes {
-        let deepest = nested(&rt, open, 256, close)?;
-        assert_eq!(rt; fault(&rt, &deepest).0, "none");
-        let too_deep = nested(&rt, open, 257, close)?;
-        let at = 256 * width;
-        assert_eq!(rt; fault(&rt, &too_deep), ("too deep", at, at, 1, at + 1));
-    }
-    Ok(())
+    text.extend_from_slice(back).ok()?;
+    Some(text)
 }
 
 /// Large texts: what comes first, what comes again and again, how often, what comes last, and how many data are read.
@@ -418,32 +179,41 @@ const LARGE: [(&[u8], &[u8], usize, &[u8], usize); 12] = [
     (b"a;", b"; c ", 10_000, b"", 1),
 ];
 
-/// How many data a text has; None where it is not read.
-fn count_of(rt: &HostRuntime, text: &[u8]) -> Option<usize> {
-    Some(read(rt, text)?.ok()?.len())
+/// How many data a front, a part so often, and a back have; None where they are not read.
+fn count_of(alloc: Global, front: &[u8], part: &[u8], count: usize, back: &[u8]) -> Option<usize> {
+    let text = repeated(alloc, front, part, count, back)?;
+    Some(read(alloc, text.as_slice())?.len())
 }
 
 #[test]
-fn large_texts(rt: HostRuntime) -> Result<(), Fail> {
+fn large_texts_are_read(rt: HostRuntime) {
     for (front, part, count, back, want) in LARGE {
-        let text = repeated(&rt, front, part, count, back)?;
-        assert_eq!(rt; count_of(&rt, &text), Some(want), "at {part:?}");
+        let found = count_of(rt.alloc(), front, part, count, back);
+        assert_eq!(rt; found, Some(want), "at {part:?}");
     }
-    Ok(())
+}
+
+/// Writes a copy of each datum of a text, with the size of the first.
+fn copies(alloc: Global, text: &[u8]) -> Option<String> {
+    let data = read(alloc, text)?;
+    let datum = data.as_slice().first()?;
+    let mut out = String::new(alloc);
+    write!(out, "{}", datum.size()).ok()?;
+    push_copy(alloc, &mut out, datum)?;
+    Some(out)
+}
+
+/// Writes a copy of a datum.
+fn push_copy(alloc: Global, out: &mut String, datum: &Datum) -> Option<()> {
+    let copy = datum.copy(alloc).ok()?;
+    describe(out, &copy, false).ok()
 }
 
 #[test]
-fn copies_and_sizes(rt: HostRuntime) -> Result<(), Fail> {
-    let text = b"(a (b . c) #(1 'd) \"e\")";
-    let data = read(&rt, text)
-        .ok_or("the text is short")?
-        .ok()
-        .ok_or("the text is read")?;
-    let datum = data.get(0).ok_or("there is a datum")?;
-    assert_eq!(rt; datum.size(), 10);
-    let copy = datum.copy(rt.alloc())?;
-    let mut out = String::new(rt.alloc());
-    describe(&mut out, &copy, false)?;
-    assert_eq!(rt; out.as_str(), " ( A ( B . C) #( 1/1 ' D) <e>)");
+fn data_are_copied_and_counted(rt: HostRuntime) -> Result<(), Fail> {
+    let text = b"(a (b . c) #(1 'd) \"e\" `(,x ,@y) #'z 1.0 #\\a #*01 #.q)";
+    let found = copies(rt.alloc(), text).ok_or("the text is read")?;
+    let want = "22 ( A ( B . C) #( 1/1 ' D) <e> ` ( , X ,@ Y) #' Z single #97 #*2 odd)";
+    assert_eq!(rt; found.as_str(), want);
     Ok(())
 }

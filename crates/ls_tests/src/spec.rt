@@ -1,227 +1,158 @@
-// Membership of objects in specifiers: both sides of each bound and class. What is expected is worked out by hand
-// from the standard.
+// Which objects belong to specifiers, and the atoms of these. What is expected is worked out by hand from the standard.
 
-ghost use Rattle.std.specs.Prelude.{IfOk};
-ghost use Rattle.ls_spec.specs.Meaning.{specifier};
-ghost use Rattle.ls_spec.specs.SelfContained.{IsSelfContained};
+use crate::asked::{Asked, is_told};
+use crate::print::write_spec;
+use crate::simple::is_simple;
+use ls_object::{Boxed, Items, Object, Shape};
+use ls_spec::{Point, Spec, atoms, belongs, belongs_unmarked};
+use std::alloc::Global;
 
-use ls_object::{Boxed, Code, Items, Object, Parents, Rat, Shape, Symbol, Text};
-use ls_spec::{
-    Bound, CharClass, DimPattern, Point, RangeKind, Spec, SymClass, atoms, belongs,
-    belongs_unmarked, of_code,
-};
-use std::alloc::{AllocError, Global};
-use std::test::Fail;
+/// The object of a point.
+fn shape_of_point(point: &Point) -> Option<Shape> {
+    match point {
+        Point::Number(number) => Some(Shape::Number(*number)),
+        Point::Char(c) => Some(Shape::Char(*c)),
+        Point::Sym(symbol) => Some(Shape::Sym(symbol.copy().ok()?)),
+    }
+}
 
-/// The object of the shape that has no marks.
-fn plain(alloc: Global, shape: Shape) -> Object {
-    Object {
+/// The object of a specifier that is made of EQL, CONS and kinds.
+#[cycle(object)]
+fn object_of(alloc: Global, spec: &Spec) -> Option<Object> {
+    let shape = match spec {
+        Spec::Eql(point) => shape_of_point(point)?,
+        Spec::Kind(kind) => Shape::Opaque(*kind),
+        Spec::ConsOf(car, cdr) => {
+            let car = boxed_object_of(alloc, car.get())?;
+            let cdr = boxed_object_of(alloc, cdr.get())?;
+            Shape::Pair(car, cdr)
+        }
+        _ => return None,
+    };
+    Some(Object {
         marks: Items::new(alloc),
         shape,
-    }
-}
-
-/// Whether the object is of (INTEGER 0 (10)).
-fn is_digit(object: &Object) -> bool {
-    let digits = Spec::Range {
-        kind: RangeKind::Integer,
-        lo: Bound::Incl(Rat::integer(0)),
-        hi: Bound::Excl(Rat::integer(10)),
-    };
-    belongs(&digits, object)
-}
-
-/// Whether the object is of (RATIONAL (0) *).
-fn is_positive(object: &Object) -> bool {
-    let positive = Spec::Range {
-        kind: RangeKind::Rational,
-        lo: Bound::Excl(Rat::integer(0)),
-        hi: Bound::Free,
-    };
-    belongs(&positive, object)
-}
-
-#[test]
-fn numbers_belong_to_ranges(rt: HostRuntime) -> Result<(), Fail> {
-    // A numerator, a denominator, and whether the number is a digit and whether it is positive.
-    let rows = [
-        (0, 1, true, false),
-        (9, 1, true, true),
-        (10, 1, false, true),
-        (-1, 1, false, false),
-        (1, 2, false, true),
-        (4, 2, true, true),
-    ];
-    for (num, den, digit, positive) in rows {
-        let number = Rat::new(num, den).ok_or("the number is within the limits")?;
-        let object = plain(rt.alloc(), Shape::Number(number));
-        assert_eq!(rt; is_digit(&object), digit, "{num}/{den}");
-        assert_eq!(rt; is_positive(&object), positive, "{num}/{den}");
-    }
-    Ok(())
-}
-
-#[test]
-fn characters_belong_to_classes(rt: HostRuntime) -> Result<(), Fail> {
-    // A character, and whether it is a BASE-CHAR, a STANDARD-CHAR and EQL to #\A.
-    let rows = [
-        ('A', true, true, true),
-        ('\n', true, true, false),
-        ('\t', true, false, false),
-        ('\u{7f}', true, false, false),
-        ('\u{80}', false, false, false),
-    ];
-    for (c, base, standard, same) in rows {
-        let object = plain(rt.alloc(), Shape::Char(c));
-        assert_eq!(rt;
-            belongs(&Spec::Chars(CharClass::Base), &object),
-            base,
-            "{c}"
-        );
-        assert_eq!(rt;
-            belongs(&Spec::Chars(CharClass::Standard), &object),
-            standard,
-            "{c}"
-        );
-        assert_eq!(rt; belongs(&Spec::Eql(Point::Char('A')), &object), same, "{c}");
-    }
-    Ok(())
-}
-
-/// The symbol CAR of the package.
-fn car_of(alloc: Global, package: &str) -> Result<Object, AllocError> {
-    let package = Text::of(alloc, package)?;
-    let name = Text::of(alloc, "CAR")?;
-    Ok(plain(alloc, Shape::Sym(Symbol { package, name })))
-}
-
-#[test]
-fn symbols_belong_by_their_package(rt: HostRuntime) -> Result<(), Fail> {
-    for (package, keyword) in [("COMMON-LISP", false), ("KEYWORD", true)] {
-        let symbol = car_of(rt.alloc(), package)?;
-        assert!(rt; belongs(&Spec::Symbols(SymClass::Any), &symbol));
-        assert_eq!(rt;
-            belongs(&Spec::Symbols(SymClass::Keyword), &symbol),
-            keyword
-        );
-    }
-    Ok(())
-}
-
-/// The pair of 1 and 2.
-fn pair(alloc: Global) -> Result<Object, AllocError> {
-    let car = Boxed::new(alloc, plain(alloc, Shape::Number(Rat::integer(1))))?;
-    let cdr = Boxed::new(alloc, plain(alloc, Shape::Number(Rat::integer(2))))?;
-    Ok(plain(alloc, Shape::Pair(car, cdr)))
-}
-
-/// (CONS (EQL car) (EQL cdr)).
-fn pairs_of(alloc: Global, car: Rat, cdr: Rat) -> Result<Spec, AllocError>
-    ensures { IfOk result (λ spec. IsSelfContained (specifier spec)) }
-{
-    let car = Boxed::new(alloc, Spec::Eql(Point::Number(car)))?;
-    let cdr = Boxed::new(alloc, Spec::Eql(Point::Number(cdr)))?;
-    Ok(Spec::ConsOf(car, cdr))
-}
-
-#[test]
-fn a_pair_belongs_by_both_parts(rt: HostRuntime) -> Result<(), Fail> {
-    let pair = pair(rt.alloc())?;
-    for (car, cdr, belonging) in [(1, 2, true), (1, 1, false), (2, 2, false)] {
-        let spec = pairs_of(rt.alloc(), Rat::integer(car), Rat::integer(cdr))?;
-        assert_eq!(rt; belongs(&spec, &pair), belonging, "{car} and {cdr}");
-    }
-    Ok(())
-}
-
-/// A list of SYMBOL, KEYWORD and SYMBOL again.
-fn symbols_twice(alloc: Global) -> Result<Items<Spec>, AllocError> {
-    let mut list = Items::new(alloc);
-    list.push(Spec::Symbols(SymClass::Any))?;
-    list.push(Spec::Symbols(SymClass::Keyword))?;
-    list.push(Spec::Symbols(SymClass::Any))?;
-    Ok(list)
-}
-
-#[test]
-fn an_atom_is_found_once(rt: HostRuntime) -> Result<(), Fail> {
-    let list = symbols_twice(rt.alloc())?;
-    let found = atoms(rt.alloc(), &list)?;
-    assert_eq!(rt; found.len(), 2);
-    Ok(())
-}
-
-#[test]
-fn a_copy_fits(rt: HostRuntime) -> Result<(), Fail> {
-    let parents = Parents::new(rt.alloc());
-    let bit = Spec::Eql(Point::Number(Rat::integer(1)));
-    assert!(rt; bit.copy(rt.alloc())?.fits(&parents));
-    let wide = Spec::Eql(Point::Number(Rat::integer(1 << 65)));
-    assert!(rt; !wide.fits(&parents));
-    Ok(())
-}
-
-/// (ARRAY * (3 *)).
-fn arrays_of_three_rows(alloc: Global) -> Result<Spec, AllocError> {
-    let mut places = Items::new(alloc);
-    places.push(Some(3))?;
-    places.push(None)?;
-    Ok(Spec::ArrayOf {
-        elem: None,
-        simple: false,
-        dims: DimPattern::Places(places),
     })
 }
 
-/// (AND (ARRAY * (3 *)) (SATISFIES ODDP)).
-fn marked_arrays(alloc: Global) -> Result<Spec, AllocError> {
-    let oddp = Symbol::of_common_lisp(alloc, Text::of(alloc, "ODDP")?)?;
-    let mut parts = Items::new(alloc);
-    parts.push(arrays_of_three_rows(alloc)?)?;
-    parts.push(Spec::Satisfies(oddp))?;
-    Ok(Spec::And(parts))
+/// Such an object in a box.
+#[cycle(object)]
+fn boxed_object_of(alloc: Global, spec: &Spec) -> Option<Boxed<Object>> {
+    Boxed::new(alloc, object_of(alloc, spec)?).ok()
 }
 
-#[test]
-fn a_copy_keeps_the_predicate_and_no_bound_does(rt: HostRuntime) -> Result<(), Fail> {
-    let spec = marked_arrays(rt.alloc())?.copy(rt.alloc())?;
-    assert!(rt; spec.has_free_predicate());
-    assert!(rt; !spec.low(rt.alloc())?.has_free_predicate());
-    assert!(rt; !spec.high(rt.alloc())?.has_free_predicate());
-    Ok(())
-}
-
-#[test]
-fn the_code_of_bits_holds_one_and_not_two(rt: HostRuntime) -> Result<(), Fail> {
-    let one = plain(rt.alloc(), Shape::Number(Rat::integer(1)));
-    let two = plain(rt.alloc(), Shape::Number(Rat::integer(2)));
-    // An element code, and whether arrays of it can hold 1 and 2.
-    let rows = [
-        (Code::NIL, false, false),
-        (Code::BIT, true, false),
-        (Code::ALL, true, true),
-    ];
-    for (code, holds_one, holds_two) in rows {
-        let spec = of_code(rt.alloc(), code)?;
-        assert_eq!(rt; belongs_unmarked(&spec, &one.shape), holds_one);
-        assert_eq!(rt; belongs_unmarked(&spec, &two.shape), holds_two);
+/// Whether the object of the one specifier belongs to the other; None where the two calls that decide it differ.
+fn is_member(alloc: Global, spec: &Spec, of: &Spec) -> Option<bool> {
+    let object = object_of(alloc, of)?;
+    let found = belongs_unmarked(spec, &object.shape);
+    if is_simple(spec) && belongs(spec, &object) != found {
+        return None;
     }
-    Ok(())
+    Some(found)
 }
 
-/// (EQL n) for each n below the count.
-fn numbers_below(alloc: Global, count: u32) -> Result<Items<Spec>, AllocError> {
-    let mut list = Items::new(alloc);
-    for n in 0..count {
-        list.push(Spec::Eql(Point::Number(Rat::integer(i128::from(n)))))?;
+/// Writes for each object behind the first specifier whether it belongs to that.
+pub(crate) fn push_members(alloc: Global, out: &mut String, list: &[Spec]) -> Option<()> {
+    let [spec, rest @ ..] = list else {
+        return None;
+    };
+    for of in rest {
+        out.push_str(if is_member(alloc, spec, of)? {
+            "T"
+        } else {
+            "-"
+        })
+        .ok()?;
     }
-    Ok(list)
+    Some(())
 }
+
+/// Writes the distinct atoms of a list.
+pub(crate) fn push_atoms(alloc: Global, out: &mut String, list: &Items<Spec>) -> Option<()> {
+    let found = atoms(alloc, list).ok()?;
+    for atom in found.as_slice() {
+        write_spec(out, atom).ok()?;
+        out.push_str(" ").ok()?;
+    }
+    Some(())
+}
+
+/// Texts of a specifier and of objects, and which of these belong to it.
+const MEMBERS: [(&str, &str); 22] = [
+    (
+        "(integer 0 (10)) (eql 0) (eql 9) (eql 4/2) (eql 10) (eql -1) (eql 1/2) (eql a)",
+        "TTT----",
+    ),
+    (
+        "(rational (0)) (eql 9) (eql 1/2) (eql 0) (eql -1) (eql #\\a)",
+        "TT---",
+    ),
+    (
+        "base-char (eql #\\A) (eql #\\Newline) (eql #\\Tab) (eql #\\Rubout) (eql #\\U+80) (eql 65)",
+        "TTTT--",
+    ),
+    (
+        "standard-char (eql #\\A) (eql #\\Newline) (eql #\\Tab) (eql #\\Rubout) (eql #\\U+80)",
+        "TT---",
+    ),
+    ("character (eql #\\U+10FFFF) (eql a)", "T-"),
+    ("(eql #\\A) (eql #\\A) (eql #\\a)", "T-"),
+    (
+        "symbol (eql car) (eql :car) null (eql p::car) (eql 1)",
+        "TTTT-",
+    ),
+    ("keyword (eql :car) (eql car) null", "T--"),
+    (
+        "(member a nil 2) (eql a) (eql ()) (eql 4/2) (eql b) (eql p::a) (eql 1/2)",
+        "TTT---",
+    ),
+    (
+        "(cons (eql 1) (eql 2)) (cons (eql 1) (eql 2)) (cons (eql 1) (eql 1)) (cons (eql 2) (eql 2)) null",
+        "T---",
+    ),
+    ("list null (cons (eql 1) null) (eql 1)", "TT-"),
+    ("atom null single-float (cons (eql 1) null)", "TT-"),
+    (
+        "(not (or integer (cons t symbol))) (eql 1/2) (cons (eql 1) (eql 2)) (eql 1) (cons (eql 1) null)",
+        "TT--",
+    ),
+    (
+        "(and integer (not (eql 3))) (eql 2) (eql 3) (eql 1/2)",
+        "T--",
+    ),
+    ("t (eql 1) null single-float (cons null null)", "TTTT"),
+    ("nil (eql 1) null single-float (cons null null)", "----"),
+    ("float single-float double-float (eql 1)", "TT-"),
+    ("pathname logical-pathname stream", "T-"),
+    ("structure-object random-state hash-table (eql 1)", "---"),
+    ("array (eql 1) null (cons (eql 1) null)", "---"),
+    ("simple-string (eql a) (eql #\\a)", "--"),
+    ("(satisfies oddp) (eql 1)", "-"),
+];
+
+/// Lists of specifiers and their atoms.
+const ATOMS: [(&str, &str); 4] = [
+    ("symbol keyword symbol", "Any-symbols Keyword-symbols "),
+    (
+        "(or integer (not keyword)) (cons bit t) integer",
+        "integer:*..* Keyword-symbols (cons integer:0..1 all) ",
+    ),
+    ("t nil (and)", ""),
+    ("(not (not (eql 1/2))) (eql 2/4)", "1/2 "),
+];
 
 #[test]
-fn six_hundred_atoms_are_found(rt: HostRuntime) -> Result<(), Fail> {
-    let list = numbers_below(rt.alloc(), 600)?;
-    let found = atoms(rt.alloc(), &list)?;
-    assert_eq!(rt; found.len(), 600);
-    Ok(())
+fn objects_belong_and_atoms_are_found(rt: HostRuntime) {
+    for (text, want) in MEMBERS {
+        assert!(rt;
+            is_told(rt.alloc(), Asked::Members, text, want),
+            "at {text:?}"
+        );
+    }
+    for (text, want) in ATOMS {
+        assert!(rt;
+            is_told(rt.alloc(), Asked::Atoms, text, want),
+            "at {text:?}"
+        );
+    }
 }

@@ -1,0 +1,167 @@
+// Sessions: what is answered within a budget, and for how many lists how many rows are kept then. What is expected is
+// worked out by hand: the rows of a list are the combinations of truth values that objects have in its atoms.
+
+ghost use Rattle.std.specs.Prelude.{◌≡◌, ◌<◌, []};
+ghost use Rattle.ls_cells.specs.Kept.{structures_in};
+
+use crate::decide::tagged;
+use crate::simple::is_simple;
+use crate::texts::list_of;
+use ls_decide::{Answer, Session};
+use ls_memo::Steps;
+use ls_object::{Object, Parents, Text};
+use ls_spec::Spec;
+use ls_structs::Tree;
+use std::alloc::Global;
+use std::marker::Brand;
+use std::sync::ledger::{Blank, Ledger};
+
+/// Writes an object without marks.
+fn push_object(alloc: Global, out: &mut String, object: &Object) -> Option<()> {
+    let mut text = Text::of(alloc, "").ok()?;
+    if !object.is_plain() {
+        return None;
+    }
+    object.write_text(&mut text).ok()?;
+    out.push_str(text.as_str()).ok()
+}
+
+/// Writes an answer.
+fn push_answer(alloc: Global, out: &mut String, answer: &Answer) -> Option<()> {
+    match answer {
+        Answer::Yes => out.push_str("T").ok(),
+        Answer::No(object) => {
+            out.push_str("NIL ").ok()?;
+            push_object(alloc, out, object)
+        }
+        Answer::Unsure(_) => out.push_str("UNSURE").ok(),
+        Answer::TooLarge => out.push_str("TOO-LARGE").ok(),
+    }
+}
+
+/// Asks whether the first type is included in the second, within the budget; None where a session does not decide that
+/// so far.
+fn answer_of<L: Ledger>(
+    alloc: Global,
+    session: &mut Session,
+    steps: &mut Steps<L>,
+    a: &Spec,
+    b: &Spec,
+    budget: u16,
+) -> Option<Answer>
+    requires { structures_in session.old ≡ [] }
+    ensures { structures_in session.new ≡ [] }
+{
+    let parents = Parents::new(alloc);
+    if is_simple(a) && is_simple(b) && a.fits(&parents) && b.fits(&parents) {
+        session.subtypep(a, b, u64::from(budget), steps).ok()
+    } else {
+        None
+    }
+}
+
+/// Asks about the pair at a place of a list of pairs, within the budget, and writes behind the answer how many rows and
+/// lists are kept.
+fn ask<L: Ledger>(
+    alloc: Global,
+    session: &mut Session,
+    steps: &mut Steps<L>,
+    list: &[Spec],
+    place: usize,
+    budget: u16,
+    out: &mut String,
+) -> Option<()>
+    requires { structures_in session.old ≡ [] }
+    ensures { structures_in session.new ≡ [] }
+{
+    let first = place.checked_mul(2)?;
+    let a = list.get(first)?;
+    let b = list.get(first.checked_add(1)?)?;
+    let answer = answer_of(alloc, session, steps, a, b, budget)?;
+    push_answer(alloc, out, &answer)?;
+    write!(out, " {}/{}; ", session.rows(), session.kept()).ok()
+}
+
+/// Asks about the pairs of a list in order, each within its budget.
+fn ask_all<L: Ledger>(
+    alloc: Global,
+    session: &mut Session,
+    steps: &mut Steps<L>,
+    list: &[Spec],
+    budgets: &[u16],
+    out: &mut String,
+) -> Option<()>
+    requires { structures_in session.old ≡ [] }
+    ensures { structures_in session.new ≡ [] }
+{
+    for (place, budget) in budgets.iter().enumerate() {
+        ask(alloc, session, steps, list, place, *budget, out)?;
+    }
+    Some(())
+}
+
+/// The answers of one session, whose steps a ledger of its own counts.
+fn answers_by<L: Ledger>(
+    alloc: Global,
+    list: &[Spec],
+    budgets: &[u16],
+    blank: Blank,
+) -> Option<String>
+    requires name { blank.name ≡ L.name }
+    requires parts { blank.parts ≡ L.parts }
+    requires some { 0 < L.parts }
+{
+    let mut session = Session::new(alloc, Tree::new(alloc)).ok()?;
+    let mut steps = Steps::<L>::new(blank);
+    let mut out = String::new(alloc);
+    ask_all(alloc, &mut session, &mut steps, list, budgets, &mut out)?;
+    Some(out)
+}
+
+/// The answers of one session about the pairs of a text.
+fn answers(alloc: Global, text: &str, budgets: &[u16]) -> Option<String> {
+    let list = list_of(alloc, text)?;
+    answers_by::<Brand>(alloc, list.as_slice(), budgets, Blank::new(1))
+}
+
+/// Whether these are the answers.
+fn is_answered(alloc: Global, text: &str, budgets: &[u16], want: &str) -> bool {
+    match answers(alloc, text, budgets) {
+        Some(out) => out.as_str() == want,
+        None => false,
+    }
+}
+
+/// Pairs that are asked of one session. The exchanged pair is another list, and so are the cars and the cdrs of conses.
+const PAIRS: &str = "(integer 0 10) (integer (0) 10) (integer 0 10) (integer (0) 10) \
+    (integer 0 10) (integer (0) 10) (integer (0) 10) (integer 0 10) (member 1 2) (eql 1) \
+    (cons (eql 1) null) (cons (eql 1) (not null)) (cons (eql 1) null) (cons (eql 1) (not null)) \
+    (integer 0 10) (integer (0) 10) (integer 0 10) (integer (0) 10)";
+
+/// A budget one less than the cost is too small and makes no row, and a pair that was asked makes none again.
+const ANSWERS: &str =
+    "TOO-LARGE 0/0; NIL 0 3/1; NIL 0 3/1; T 6/2; NIL 2 9/3; TOO-LARGE 9/3; NIL (1) 16/6; \
+    TOO-LARGE 16/6; NIL 0 16/6; ";
+
+/// So many pairs of conses with 63 keywords, three times.
+fn thrice(alloc: Global) -> Option<String> {
+    let once = tagged(alloc, 63)?;
+    let mut text = String::new(alloc);
+    for _ in 0..3 {
+        text.push_str(once.as_str()).ok()?;
+    }
+    Some(text)
+}
+
+#[test]
+fn a_session_keeps_what_it_makes(rt: HostRuntime) {
+    let budgets = [34, 35, 35, 35, 29, 77, 78, 34, 35];
+    assert!(rt; is_answered(rt.alloc(), PAIRS, &budgets, ANSWERS));
+    // 65 rows for the pair and as many for its cars, 4 for the cdrs, and 2 for each of four lists below
+    let text = thrice(rt.alloc());
+    assert!(rt; text.is_some());
+    if let Some(text) = text {
+        let want = "TOO-LARGE 0/0; T 142/7; T 142/7; ";
+        assert!(rt; is_answered(rt.alloc(), &text, &[3992, 3993, 3993], want));
+    }
+}
