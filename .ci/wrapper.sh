@@ -282,7 +282,7 @@ END
 PROGRAM=$program
 export PROGRAM
 built plain.lisp
-is 'a first build' 0 "$answered" 'selvdrik: proving and building the program; the first time this takes about half an hour on four processors
+is 'a first build' 0 "$answered" 'selvdrik: proving and building the program; the first time this takes about an hour on four processors
 selvdrik:  1 of 3: low N s
 selvdrik:  2 of 3: middle N s
 selvdrik:  3 of 3: subtypep_app N s
