@@ -257,6 +257,3 @@ pub fn of_builtin(alloc: Global, name: Builtin) -> Result<Spec, AllocError>
         _ => Ok(Spec::Nothing),
     }
 }
-
-#[cfg(test)]
-mod tests;

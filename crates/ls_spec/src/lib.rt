@@ -8,6 +8,7 @@ mod bounds;
 mod builtin;
 mod codes;
 mod copy;
+mod dims;
 mod fits;
 mod key;
 mod laws;
@@ -19,6 +20,7 @@ mod spec;
 pub use atom_list::atoms;
 pub use builtin::of_builtin;
 pub use codes::of_code;
+pub use dims::are_dims_matched;
 pub use key::{key_of, key_of_name};
 pub use laws::{
     approximations, distinct_specifiers, free_predicates, limits_of_specifiers, one_right_answer,

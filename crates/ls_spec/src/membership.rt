@@ -12,6 +12,7 @@ ghost use Rattle.ls_spec.specs.Truth as truth;
 ghost use Rattle.ls_spec.specs.SelfContained.{IsSelfContained, IsFlat};
 ghost use Rattle.ls_spec.specs.Truth.{nothing_learnt};
 
+use crate::dims::{are_dims_matched, is_place_matched};
 use crate::spec::{Bound, CharClass, DimPattern, Point, RangeKind, Spec, SymClass};
 use ls_object::{
     BASE_CHAR_PLACE, CHARACTER_PLACE, Code, Dims, Kind, NIL_PLACE, Object, Rat, Shape, Symbol,
@@ -111,40 +112,6 @@ fn is_any_structure(shape: &Shape) -> bool
     }
 }
 
-fn is_place_matched(place: Option<u64>, dim: u64) -> bool
-    ensures { result ≡ truth.matches_place place dim }
-{
-    match place {
-        None => true,
-        Some(wanted) => dim == wanted,
-    }
-}
-
-fn is_matched(places: &[Option<u64>], dims: &[u64]) -> bool
-    ensures { result ≡ truth.matches_places places.now dims.now }
-{
-    let mut rest = dims;
-    for place in places {
-        let [dim, others @ ..] = rest else {
-            return false;
-        };
-        if !is_place_matched(*place, *dim) {
-            return false;
-        }
-        rest = others;
-    }
-    rest.is_empty()
-}
-
-fn is_matched_by(pattern: &DimPattern, dims: &Dims) -> bool
-    ensures { result ≡ truth.matches_dimensions pattern.now dims.now }
-{
-    match pattern {
-        DimPattern::Any => true,
-        DimPattern::Places(places) => is_matched(places.as_slice(), dims.as_slice()),
-    }
-}
-
 fn is_string_code(code: Code) -> bool
     ensures { result ≡ truth.is_string_code code.index }
 {
@@ -162,7 +129,7 @@ fn is_array(simple: bool, dims: &DimPattern, shape: &Shape) -> bool
     else {
         return false;
     };
-    (!simple || *is_simple) && is_matched_by(dims, has)
+    (!simple || *is_simple) && are_dims_matched(dims, has)
 }
 
 fn is_of_length(dim: Option<u64>, dims: &Dims) -> bool

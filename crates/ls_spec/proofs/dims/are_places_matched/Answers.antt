@@ -1,6 +1,6 @@
 use Rattle.std.proofs.Common.{ℕ, zero, suc, ◌≡◌, sym, ◌∙◌, refl, ◌<◌, false, List, [], ◌∷◌, Option, length, drop, arith}
 use Rattle.ls_spec.specs.Truth.{matches_places}
-use Rattle.ls_arrays.proofs.atom.are_places_matched.Goals as goal
+use Rattle.ls_spec.proofs.dims.are_places_matched.Goals as goal
 
 -- places that have no dimension left are not matched
 out_of_dimensions : (ps : List (Option ℕ)) (i : ℕ) (ns : List ℕ) → i < length ps → length ns < 1 → matches_places (drop i ps) ns ≡ false
