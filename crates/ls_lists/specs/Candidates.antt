@@ -1,6 +1,7 @@
 -- How many objects are enough for a list of specifiers, beside its conses.
 use Rattle.std.specs.Prelude.{ℕ, zero, suc, ◌+◌, ◌*◌, ◌==◌, min, Bool, true, false, if◌then◌else◌, nat_eq, List, [], ◌∷◌, ◌++◌, Option, Some, fold, filter, map, length, slice_get}
 use Rattle.std.specs.List.{flat_map, count_by, list_any, sum_by}
+use Rattle.ls_object.specs.declared.table.TheConstants.{TABLE_LEN}
 use Rattle.ls_spec.specs.declared.spec.DimPattern.{DimPattern}
 use Rattle.ls_spec.specs.declared.spec.DimPattern.TheVariants as dimensions
 use Rattle.ls_spec.specs.Specifier.{Specifier, eql_to, range_of, kind_of, structure_under, any_structure, array_any, array_of, string_of, satisfies}
@@ -82,9 +83,9 @@ shapes_of_rank rank patterns = product_below rank (λ place. 1 + length (distinc
 abbrev pub shapes : List Pattern → ℕ
 shapes patterns = sum_by (λ rank. shapes_of_rank rank (filter (λ p. length p == rank) patterns)) (distinct_numbers (map length patterns))
 
--- The element codes that can be told apart, at most the 19 of the upgrading table. A string atom asks for three.
+-- The element codes that can be told apart, at most those of the upgrading table. A string atom asks for three.
 abbrev pub element_codes : List Specifier → ℕ
-element_codes atoms = min 19 (length (distinct (flat_map element_of atoms)) + (if list_any is_string atoms then 3 else 0))
+element_codes atoms = min TABLE_LEN (length (distinct (flat_map element_of atoms)) + (if list_any is_string atoms then 3 else 0))
 
 -- arrays that are enough: simple ones and others, of each element code and of one more, of each shape and of one more
 unfoldable pub arrays : List Specifier → ℕ
