@@ -5,12 +5,12 @@ use Rattle.std.specs.Prelude.{nat_lt, if◌then◌else◌}
 use Rattle.std.specs.List.{flat_map}
 use Rattle.ls_reader.specs.declared.datum.Span.{Span}
 use Rattle.ls_reader.specs.declared.datum.Datum.{Datum}
-use Rattle.ls_spec.specs.Specifier.{Specifier, not_of, cons_of}
+use Rattle.ls_spec.specs.Specifier.{Specifier, not_of, array_of, cons_of}
 use Rattle.ls_env.specs.Environments.{Environment}
 use Rattle.ls_grammar.specs.declared.refusal.RefusalKind.TheVariants as kind
 use Rattle.ls_grammar.specs.declared.refusal.Refusal.{Refusal}
 use Rattle.ls_grammar.specs.Numbers.{refusal}
-use Rattle.ls_grammar.specs.Levels.{Level, refused, known, object, members, all_of, some_of, none_of, pair_of}
+use Rattle.ls_grammar.specs.Levels.{Level, refused, known, object, members, all_of, some_of, none_of, pair_of, array_over}
 use Rattle.ls_grammar.specs.Saying.{level, weight_of}
 use Rattle.ls_grammar.specs.Denoting.{eql_of, conjunction, disjunction}
 use Rattle.ls_grammar.specs.steps.Running.{Outcome, next, enter, made, with_room, run_all, run_object, run_part, run_level, outcome}
@@ -144,6 +144,10 @@ follow_level f g h depth deep at (pair_of car cdr) room =
     follow_enter (own_visit at depth (pair_of car cdr)) (cars ++ cdrs) room (λ k. next K (run_part f car k)) deep refl
     (λ k. follow_next cars cdrs k (run_part f car k) K (follow_part f g h car k)
     (λ a left. follow_made cdrs left (run_part f cdr left) (cons_of a) (follow_part f g h cdr left)))
+follow_level f g h depth deep at (array_over d simple dims) room =
+    let array : Specifier → Specifier = λ e. array_of e simple dims in
+    follow_enter (own_visit at depth (array_over d simple dims)) (g d) room (λ k. next (made array) (f d k)) deep refl
+    (λ k. follow_made (g d) k (f d k) array (h d k))
 
 deep_past : (depth : ℕ) → depth ≡ 257 → nat_lt deepest depth ≡ true
 deep_past depth e = grind (arith, nat_tests)

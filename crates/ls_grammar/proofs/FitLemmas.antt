@@ -20,13 +20,13 @@ use Rattle.ls_grammar.proofs.WholeLemmas.{whole_outcome, denotes_in}
 use Rattle.ls_grammar.proofs.KeptLemmas.{OfKnown, IsKept, kept_in}
 
 module _ (structures : Structures) where
-  -- at most three levels deeper than the levels that denote it, by what built-in names expand to; with small numbers
+  -- at most four levels deeper than the levels that denote it, by what built-in names expand to; with small numbers
   -- and known structure names
   abbrev IsFitIn : ℕ → Specifier → Type 0
-  IsFitIn n s = HasKnownNames structures s × HasSmallNumbers s × (depth s ≤ n + 3)
+  IsFitIn n s = HasKnownNames structures s × HasSmallNumbers s × (depth s ≤ n + 4)
 
   abbrev AreFitIn : ℕ → Specifiers → Type 0
-  AreFitIn n ss = HaveKnownNames structures ss × HaveSmallNumbers ss × (greatest_depth ss ≤ n + 3)
+  AreFitIn n ss = HaveKnownNames structures ss × HaveSmallNumbers ss × (greatest_depth ss ≤ n + 4)
 
   fit_all : (n : ℕ) (ss : List Specifier) → AllByRecursion (IsFitIn n) ss → AreFitIn n (specifiers_of ss)
   fit_all n [] h = (tt, tt, omega arith)
@@ -40,18 +40,7 @@ module _ (structures : Structures) where
   deeper n b = let fit = fit_expansion b in (fit.0, fit.1, omega (arith, fit.2))
 
   fit_atom : (n : ℕ) (at : Span) (b : Builtin) → OfKnown (IsFitIn (suc n)) (built_atom at b)
-  fit_atom n at name.Sequence = tt
   fit_atom n at name.Satisfies = tt
-  fit_atom n at name.Array = tt
-  fit_atom n at name.SimpleArray = tt
-  fit_atom n at name.Vector = tt
-  fit_atom n at name.SimpleVector = tt
-  fit_atom n at name.BitVector = tt
-  fit_atom n at name.SimpleBitVector = tt
-  fit_atom n at name.BaseString = tt
-  fit_atom n at name.SimpleBaseString = tt
-  fit_atom n at name.String = tt
-  fit_atom n at name.SimpleString = tt
   fit_atom n at name.And = tt
   fit_atom n at name.Or = tt
   fit_atom n at name.Not = tt
@@ -67,12 +56,16 @@ module _ (structures : Structures) where
   kept = record {
     range = λ n k lo hi l h. (tt, (l, h), omega arith);
     atom = fit_atom;
+    array = λ n simple dims h. (tt, h, omega arith);
+    vector = λ n b simple length h. (let fit = fit_expansion b in (fit.0, (fit.1, (lit≤ tt, (h, tt))), omega (arith, fit.2)));
+    string = λ n simple length h. (tt, h, omega arith);
     point = λ n p small. (tt, small, omega arith);
     all = λ n ss h. (let fit = fit_all n ss h in (fit.0, fit.1, omega (arith, fit.2)));
     some = λ n ss h. (let fit = fit_all n ss h in (fit.0, fit.1, omega (arith, fit.2)));
     none = λ n s h. (h.0, h.1, omega (arith, h.2));
     any = λ n. (tt, tt, omega arith);
     pair = λ n a b g h. ((g.0, h.0), (g.1, h.1), omega (arith, g.2, h.2));
+    element = λ n e simple dims small h. (h.0, (h.1, small), omega (arith, h.2));
   }
 
   fit_whole : (env : Environment) (d : Datum) (x : Specifier × ℕ) → whole_outcome env d ≡ Ok x → Fits structures x.0

@@ -1,8 +1,8 @@
--- A property of specifiers that ranges, built-in names, objects, AND, OR, NOT and CONS keep holds of all that data
--- denote.
+-- A property of specifiers that ranges, built-in names, arrays, strings, objects, AND, OR, NOT and CONS keep holds of
+-- all that data denote.
 use Rattle.std.proofs.Common.{ℕ, ℤ, pos, zero, suc, ◌-◌, ◌-ℤ◌, ◌≤◌, ◌^◌, List, [], ◌∷◌, length, Result, Ok, Err, arith, lit≤}
 use Rattle.std.proofs.Common.{subst, sym}
-use Rattle.std.specs.Prelude.{nat_le, neg_ℤ, unsigned_abs, if◌then◌else◌, Option, Some, None, IfOk, IfSome}
+use Rattle.std.specs.Prelude.{nat_le, neg_ℤ, unsigned_abs, if◌then◌else◌, Bool, true, false, Option, Some, None, IfOk, IfSome}
 use Rattle.std.specs.List.{AllByRecursion, list_all}
 use Rattle.std.proofs.lemmas.Bool.{cond_both}
 use Rattle.std.proofs.lemmas.Int.{ints}
@@ -21,33 +21,42 @@ use Rattle.ls_spec.specs.declared.spec.RangeKind.{RangeKind}
 use Rattle.ls_spec.specs.declared.spec.RangeKind.TheVariants.{Integer, Rational}
 use Rattle.ls_spec.specs.declared.spec.Bound.{Bound}
 use Rattle.ls_spec.specs.declared.spec.Bound.TheVariants.{Free, Incl}
-use Rattle.ls_spec.specs.Specifier.{Specifier, all_objects, not_of, eql_to, range_of, cons_of}
+use Rattle.ls_spec.specs.declared.spec.DimPattern.{DimPattern}
+use Rattle.ls_spec.specs.declared.spec.DimPattern.TheVariants as dimensions
+use Rattle.ls_spec.specs.Specifier.{Specifier, all_objects, not_of, eql_to, range_of, array_any, array_of, string_of, cons_of}
 use Rattle.ls_spec.specs.Builtins.{expansion}
-use Rattle.ls_spec.specs.Fits.{IsSmall, IsSmallBound, IsSmallPoint}
+use Rattle.ls_spec.specs.Fits.{IsSmall, IsSmallBound, IsSmallPoint, IsSmallPlace, AreSmallDimensions}
 use Rattle.ls_env.specs.Environments.{Environment}
 use Rattle.ls_grammar.specs.declared.refusal.Refusal.{Refusal}
 use Rattle.ls_grammar.specs.declared.refusal.RefusalKind.{RefusalKind}
 use Rattle.ls_grammar.specs.declared.refusal.RefusalKind.TheVariants as kind
 use Rattle.ls_grammar.specs.Numbers.{refusal, written, whole, is_star, bound_of, size_of, bits_of}
-use Rattle.ls_grammar.specs.Levels.{Level, refused, known, object, members, all_of, some_of, none_of, pair_of, bad_argument}
+use Rattle.ls_grammar.specs.Levels.{Level, refused, known, object, members, all_of, some_of, none_of, pair_of, array_over, bad_argument}
 use Rattle.ls_grammar.specs.Levels.{range, range_level, from_to, below, signed_bytes, unsigned_bytes, sized, mod_level}
-use Rattle.ls_grammar.specs.Levels.{signed_level, unsigned_level, starred_level, not_level, eql_level, cons_level}
+use Rattle.ls_grammar.specs.Levels.{signed_level, unsigned_level, starred_level, not_level, eql_level, part_of, cons_level}
+use Rattle.ls_grammar.specs.Dimensions.{place_of, dimensions_of, one_place}
+use Rattle.ls_grammar.specs.ArrayLevels.{elements, arrays, array_level, vector_with, vector_level, of_length, length_level, vectors_over}
 use Rattle.ls_grammar.specs.BuiltinLevels.{built_atom, built_list}
 use Rattle.ls_grammar.specs.Saying.{atom_level, list_level, head_level, items_level, form_level, level}
 use Rattle.ls_grammar.specs.Denoting.{object_form, number_point, conjunction, disjunction, Each, IsEql, SaysPart, Says, DenotesIn}
 use Rattle.ls_grammar.proofs.NumberLemmas.{small_power, small_whole, small_written}
 use Rattle.ls_grammar.proofs.BoundLemmas.{IsAtMost, of_bound, of_size, of_bits}
+use Rattle.ls_grammar.proofs.DimensionLemmas.{small_place, small_dimensions}
 
--- what holds of the specifier that a level shows, if it shows one
+-- what holds of the specifier that a level shows, if it shows one; dimensions are within the limits
 abbrev pub OfKnown : (Specifier → Type 0) → Level → Type 0
 OfKnown Q (known s) = Q s
+OfKnown Q (array_over d simple dims) = AreSmallDimensions dims
 OfKnown Q _ = Unit {0}
 
 -- ---- one level
 
 module _ (Q : Specifier → Type 0)
     (on_range : (k : RangeKind) (lo hi : Bound) → IsSmallBound lo → IsSmallBound hi → Q (range_of k lo hi))
-    (on_atom : (at : Span) (b : Builtin) → OfKnown Q (built_atom at b)) where
+    (on_atom : (at : Span) (b : Builtin) → OfKnown Q (built_atom at b))
+    (on_array : (simple : Bool) (dims : DimPattern) → AreSmallDimensions dims → Q (array_any simple dims))
+    (on_vector : (b : Builtin) (simple : Bool) (n : Option ℕ) → IsSmallPlace n → Q (vectors_over b simple n))
+    (on_string : (simple : Bool) (n : Option ℕ) → IsSmallPlace n → Q (string_of simple n)) where
   of_range : (k : RangeKind) (lo hi : Result Bound Refusal) → IfOk lo IsSmallBound → IfOk hi IsSmallBound → OfKnown Q (range k lo hi)
   of_range k (Err x) hi h l = tt
   of_range k (Ok lo) (Err x) h l = tt
@@ -118,6 +127,52 @@ module _ (Q : Specifier → Type 0)
   of_cons_level at (d ∷ e ∷ []) = tt
   of_cons_level at (d ∷ e ∷ f ∷ ds) = tt
 
+  -- ---- arrays and strings
+
+  of_elements : (e : Option Datum) (simple : Bool) (dims : DimPattern) → AreSmallDimensions dims → OfKnown Q (elements e simple dims)
+  of_elements None simple dims h = on_array simple dims h
+  of_elements (Some d) simple dims h = h
+
+  of_arrays : (e : Option Datum) (simple : Bool) (dims : Result DimPattern Refusal) → IfOk dims AreSmallDimensions → OfKnown Q (arrays e simple dims)
+  of_arrays e simple (Err x) h = tt
+  of_arrays e simple (Ok dims) h = of_elements e simple dims h
+
+  of_array_level : (simple : Bool) (at : Span) (args : List Datum) → OfKnown Q (array_level simple at args)
+  of_array_level simple at [] = on_array simple dimensions.Any tt
+  of_array_level simple at (e ∷ []) = of_elements (part_of e) simple dimensions.Any tt
+  of_array_level simple at (e ∷ dims ∷ []) = of_arrays (part_of e) simple (dimensions_of dims) (small_dimensions dims)
+  of_array_level simple at (e ∷ dims ∷ d ∷ ds) = tt
+
+  small_one : (n : Option ℕ) → IsSmallPlace n → AreSmallDimensions (one_place n)
+  small_one n h = (lit≤ tt, (h, tt))
+
+  of_vector_with : (e : Option Datum) (n : Result (Option ℕ) Refusal) → IfOk n IsSmallPlace → OfKnown Q (vector_with e n)
+  of_vector_with e (Err x) h = tt
+  of_vector_with e (Ok n) h = of_elements e false (one_place n) (small_one n h)
+
+  of_vector_level : (at : Span) (args : List Datum) → OfKnown Q (vector_level at args)
+  of_vector_level at [] = on_array false (one_place None) (small_one None tt)
+  of_vector_level at (e ∷ []) = of_elements (part_of e) false (one_place None) (small_one None tt)
+  of_vector_level at (e ∷ n ∷ []) = of_vector_with (part_of e) (place_of n) (small_place n)
+  of_vector_level at (e ∷ n ∷ d ∷ ds) = tt
+
+  of_of_length : (said : Option ℕ → Specifier) → ((n : Option ℕ) → IsSmallPlace n → Q (said n)) → (n : Result (Option ℕ) Refusal) → IfOk n IsSmallPlace → OfKnown Q (of_length said n)
+  of_of_length said on (Err x) h = tt
+  of_of_length said on (Ok n) h = on n h
+
+  of_length_level : (said : Option ℕ → Specifier) → ((n : Option ℕ) → IsSmallPlace n → Q (said n)) → (at : Span) (args : List Datum) → OfKnown Q (length_level said at args)
+  of_length_level said on at [] = on None tt
+  of_length_level said on at (n ∷ []) = of_of_length said on (place_of n) (small_place n)
+  of_length_level said on at (n ∷ d ∷ ds) = tt
+
+  of_named_level : (b : Builtin) (simple : Bool) (at : Span) (args : List Datum) → OfKnown Q (length_level (vectors_over b simple) at args)
+  of_named_level b simple at args = of_length_level (vectors_over b simple) (on_vector b simple) at args
+
+  of_string_level : (simple : Bool) (at : Span) (args : List Datum) → OfKnown Q (length_level (string_of simple) at args)
+  of_string_level simple at args = of_length_level (string_of simple) (on_string simple) at args
+
+  -- ---- all heads and data
+
   of_built_list : (at : Span) (args : List Datum) (b : Builtin) → OfKnown Q (built_list at args b)
   of_built_list at args name.Not = of_not_level at args
   of_built_list at args name.Eql = of_eql_level at args
@@ -134,6 +189,16 @@ module _ (Q : Specifier → Type 0)
   of_built_list at args name.DoubleFloat = of_starred_level kind.FloatRange 2 name.DoubleFloat at args (on_atom at name.DoubleFloat)
   of_built_list at args name.Real = of_starred_level kind.FloatRange 2 name.Real at args (on_atom at name.Real)
   of_built_list at args name.Complex = of_starred_level kind.ComplexPart 1 name.Complex at args (on_atom at name.Complex)
+  of_built_list at args name.Array = of_array_level false at args
+  of_built_list at args name.SimpleArray = of_array_level true at args
+  of_built_list at args name.Vector = of_vector_level at args
+  of_built_list at args name.SimpleVector = of_named_level name.T true at args
+  of_built_list at args name.BitVector = of_named_level name.Bit false at args
+  of_built_list at args name.SimpleBitVector = of_named_level name.Bit true at args
+  of_built_list at args name.BaseString = of_named_level name.BaseChar false at args
+  of_built_list at args name.SimpleBaseString = of_named_level name.BaseChar true at args
+  of_built_list at args name.String = of_string_level false at args
+  of_built_list at args name.SimpleString = of_string_level true at args
   of_built_list at args _ = tt
 
   of_head : (env : Environment) (at : Span) (s : Symbol) (args : List Datum) (b : Option Builtin) → OfKnown Q (list_level env at s args b)
@@ -167,12 +232,16 @@ module _ (Q : Specifier → Type 0)
 pub record IsKept (P : ℕ → Specifier → Type 0) : Type 0 where
   pub range : (n : ℕ) (k : RangeKind) (lo hi : Bound) → IsSmallBound lo → IsSmallBound hi → P (suc n) (range_of k lo hi)
   pub atom : (n : ℕ) (at : Span) (b : Builtin) → OfKnown (P (suc n)) (built_atom at b)
+  pub array : (n : ℕ) (simple : Bool) (dims : DimPattern) → AreSmallDimensions dims → P (suc n) (array_any simple dims)
+  pub vector : (n : ℕ) (b : Builtin) (simple : Bool) (length : Option ℕ) → IsSmallPlace length → P (suc n) (vectors_over b simple length)
+  pub string : (n : ℕ) (simple : Bool) (length : Option ℕ) → IsSmallPlace length → P (suc n) (string_of simple length)
   pub point : (n : ℕ) (p : Point) → IsSmallPoint p → P n (eql_to p)
   pub all : (n : ℕ) (ss : List Specifier) → AllByRecursion (P n) ss → P (suc n) (conjunction ss)
   pub some : (n : ℕ) (ss : List Specifier) → AllByRecursion (P n) ss → P (suc n) (disjunction ss)
   pub none : (n : ℕ) (s : Specifier) → P n s → P (suc n) (not_of s)
   pub any : (n : ℕ) → P n all_objects
   pub pair : (n : ℕ) (a b : Specifier) → P n a → P n b → P (suc n) (cons_of a b)
+  pub element : (n : ℕ) (e : Specifier) (simple : Bool) (dims : DimPattern) → AreSmallDimensions dims → P n e → P (suc n) (array_of e simple dims)
 
 module _ (P : ℕ → Specifier → Type 0) (kept : IsKept P) where
   of_number : (n : ℕ) (at : Span) (o : Option Rat) → IfSome o IsSmall → IfOk (number_point at o) (P n)
@@ -211,9 +280,10 @@ module _ (P : ℕ → Specifier → Type 0) (kept : IsKept P) where
   of_says n R h (none_of d) s shown says = subst (P (suc n)) (sym says.1) (kept.none n says.0 (h d says.0 says.2))
   of_says n R h (pair_of car cdr) s shown says =
       subst (P (suc n)) (sym says.2) (kept.pair n says.0 says.1 (of_part n R h car says.0 says.3) (of_part n R h cdr says.1 says.4))
+  of_says n R h (array_over d simple dims) s shown says = subst (P (suc n)) (sym says.1) (kept.element n says.0 simple dims shown (h d says.0 says.2))
 
   -- what the levels keep holds of each specifier that a datum denotes
   pub kept_in : (env : Environment) (n : ℕ) (d : Datum) (s : Specifier) → DenotesIn env n d s → P n s
   kept_in env zero d s h = absurd h
   kept_in env (suc n) d s h =
-      of_says n (DenotesIn env n) (kept_in env n) (level env d) s (of_level (P (suc n)) (kept.range n) (kept.atom n) env d) h
+      of_says n (DenotesIn env n) (kept_in env n) (level env d) s (of_level (P (suc n)) (kept.range n) (kept.atom n) (kept.array n) (kept.vector n) (kept.string n) env d) h

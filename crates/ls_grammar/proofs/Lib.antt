@@ -1,5 +1,7 @@
 pub mod NumberLemmas
 pub mod BoundLemmas
+pub mod DimensionLemmas
+pub mod ArrayLemmas
 pub mod OutcomeLemmas
 pub mod AgreementLemmas
 pub mod MeaningLemmas

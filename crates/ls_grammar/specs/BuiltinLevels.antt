@@ -1,15 +1,17 @@
 -- What each built-in name says as an atom, and as the head of a list with arguments (4.2.3, figures 4-2 to 4-4).
--- The names of sequences, arrays, strings and predicates are not built.
-use Rattle.std.specs.Prelude.{List}
+-- The name of predicates is not built.
+use Rattle.std.specs.Prelude.{true, false, List}
 use Rattle.ls_reader.specs.declared.datum.Span.{Span}
 use Rattle.ls_reader.specs.declared.datum.Datum.{Datum}
 use Rattle.ls_tables.specs.declared.name.Builtin.{Builtin}
 use Rattle.ls_tables.specs.declared.name.Builtin.TheVariants as name
 use Rattle.ls_spec.specs.declared.spec.RangeKind.TheVariants.{Integer, Rational}
+use Rattle.ls_spec.specs.Specifier.{string_of}
 use Rattle.ls_spec.specs.Builtins.{expansion}
 use Rattle.ls_grammar.specs.declared.refusal.RefusalKind.TheVariants as kind
 use Rattle.ls_grammar.specs.Numbers.{refusal}
 use Rattle.ls_grammar.specs.Levels.{Level, refused, known, members, all_of, some_of, bad_argument, not_built, range_level, mod_level, signed_level, unsigned_level, starred_level, not_level, eql_level, cons_level}
+use Rattle.ls_grammar.specs.ArrayLevels.{array_level, vector_level, length_level, vectors_over}
 
 -- as an atom: the names of figures 4-2 and 4-3 are specifiers by themselves, those of figure 4-4 are not
 abbrev pub built_atom : Span → Builtin → Level
@@ -30,7 +32,7 @@ built_atom at name.Fixnum = known (expansion name.Fixnum)
 built_atom at name.Bignum = known (expansion name.Bignum)
 built_atom at name.Ratio = known (expansion name.Ratio)
 built_atom at name.Number = known (expansion name.Number)
-built_atom at name.Sequence = not_built at
+built_atom at name.Sequence = known (expansion name.Sequence)
 built_atom at name.StructureObject = known (expansion name.StructureObject)
 built_atom at name.HashTable = known (expansion name.HashTable)
 built_atom at name.Readtable = known (expansion name.Readtable)
@@ -47,16 +49,16 @@ built_atom at name.Rational = known (expansion name.Rational)
 built_atom at name.SignedByte = known (expansion name.SignedByte)
 built_atom at name.UnsignedByte = known (expansion name.UnsignedByte)
 built_atom at name.Cons = known (expansion name.Cons)
-built_atom at name.Array = not_built at
-built_atom at name.SimpleArray = not_built at
-built_atom at name.Vector = not_built at
-built_atom at name.SimpleVector = not_built at
-built_atom at name.BitVector = not_built at
-built_atom at name.SimpleBitVector = not_built at
-built_atom at name.BaseString = not_built at
-built_atom at name.SimpleBaseString = not_built at
-built_atom at name.String = not_built at
-built_atom at name.SimpleString = not_built at
+built_atom at name.Array = known (expansion name.Array)
+built_atom at name.SimpleArray = known (expansion name.SimpleArray)
+built_atom at name.Vector = known (expansion name.Vector)
+built_atom at name.SimpleVector = known (expansion name.SimpleVector)
+built_atom at name.BitVector = known (expansion name.BitVector)
+built_atom at name.SimpleBitVector = known (expansion name.SimpleBitVector)
+built_atom at name.BaseString = known (expansion name.BaseString)
+built_atom at name.SimpleBaseString = known (expansion name.SimpleBaseString)
+built_atom at name.String = known (expansion name.String)
+built_atom at name.SimpleString = known (expansion name.SimpleString)
 built_atom at name.Float = known (expansion name.Float)
 built_atom at name.ShortFloat = known (expansion name.ShortFloat)
 built_atom at name.SingleFloat = known (expansion name.SingleFloat)
@@ -94,7 +96,7 @@ built_list at args name.Fixnum = bad_argument at
 built_list at args name.Bignum = bad_argument at
 built_list at args name.Ratio = bad_argument at
 built_list at args name.Number = bad_argument at
-built_list at args name.Sequence = not_built at
+built_list at args name.Sequence = bad_argument at
 built_list at args name.StructureObject = bad_argument at
 built_list at args name.HashTable = bad_argument at
 built_list at args name.Readtable = bad_argument at
@@ -111,16 +113,16 @@ built_list at args name.Rational = range_level Rational at args
 built_list at args name.SignedByte = signed_level at args
 built_list at args name.UnsignedByte = unsigned_level at args
 built_list at args name.Cons = cons_level at args
-built_list at args name.Array = not_built at
-built_list at args name.SimpleArray = not_built at
-built_list at args name.Vector = not_built at
-built_list at args name.SimpleVector = not_built at
-built_list at args name.BitVector = not_built at
-built_list at args name.SimpleBitVector = not_built at
-built_list at args name.BaseString = not_built at
-built_list at args name.SimpleBaseString = not_built at
-built_list at args name.String = not_built at
-built_list at args name.SimpleString = not_built at
+built_list at args name.Array = array_level false at args
+built_list at args name.SimpleArray = array_level true at args
+built_list at args name.Vector = vector_level at args
+built_list at args name.SimpleVector = length_level (vectors_over name.T true) at args
+built_list at args name.BitVector = length_level (vectors_over name.Bit false) at args
+built_list at args name.SimpleBitVector = length_level (vectors_over name.Bit true) at args
+built_list at args name.BaseString = length_level (vectors_over name.BaseChar false) at args
+built_list at args name.SimpleBaseString = length_level (vectors_over name.BaseChar true) at args
+built_list at args name.String = length_level (string_of false) at args
+built_list at args name.SimpleString = length_level (string_of true) at args
 built_list at args name.Float = starred_level kind.FloatRange 2 name.Float at args
 built_list at args name.ShortFloat = starred_level kind.FloatRange 2 name.ShortFloat at args
 built_list at args name.SingleFloat = starred_level kind.FloatRange 2 name.SingleFloat at args

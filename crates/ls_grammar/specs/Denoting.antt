@@ -6,13 +6,13 @@ use Rattle.ls_reader.specs.declared.datum.Datum.{Datum}
 use Rattle.ls_reader.specs.declared.datum.Form.{Form, out-Form}
 use Rattle.ls_reader.specs.declared.datum.Form.TheOpen.{Form-F}
 use Rattle.ls_spec.specs.declared.spec.Point.TheVariants as point
-use Rattle.ls_spec.specs.Specifier.{Specifier, all_objects, and_of, or_of, not_of, eql_to, cons_of}
+use Rattle.ls_spec.specs.Specifier.{Specifier, all_objects, and_of, or_of, not_of, eql_to, array_of, cons_of}
 use Rattle.ls_spec.specs.Meaning.{specifiers_of}
 use Rattle.ls_env.specs.Environments.{Environment}
 use Rattle.ls_grammar.specs.declared.refusal.RefusalKind.TheVariants as kind
 use Rattle.ls_grammar.specs.declared.refusal.Refusal.{Refusal}
 use Rattle.ls_grammar.specs.Numbers.{refusal, too_wide, written}
-use Rattle.ls_grammar.specs.Levels.{Level, refused, known, object, members, all_of, some_of, none_of, pair_of}
+use Rattle.ls_grammar.specs.Levels.{Level, refused, known, object, members, all_of, some_of, none_of, pair_of, array_over}
 use Rattle.ls_grammar.specs.Saying.{level}
 
 -- ---- the objects of MEMBER and EQL
@@ -63,6 +63,7 @@ Says P (all_of ds) s = (ss : List Specifier) × (s ≡ conjunction ss) × Each P
 Says P (some_of ds) s = (ss : List Specifier) × (s ≡ disjunction ss) × Each P ds ss
 Says P (none_of d) s = (t : Specifier) × (s ≡ not_of t) × P d t
 Says P (pair_of car cdr) s = (a : Specifier) × (b : Specifier) × (s ≡ cons_of a b) × SaysPart P car a × SaysPart P cdr b
+Says P (array_over d simple dims) s = (e : Specifier) × (s ≡ array_of e simple dims) × P d e
 
 abbrev pub DenotesIn : Environment → ℕ → Datum → Specifier → Type 0
 DenotesIn env zero d s = ⊥

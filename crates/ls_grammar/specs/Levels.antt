@@ -1,5 +1,5 @@
 -- What a datum can say as a specifier one level deep, and what the built-in heads of lists say (4.2.3).
-use Rattle.std.specs.Prelude.{ℕ, ℤ, pos, neg_ℤ, ◌-ℤ◌, ◌-◌, ◌^◌, nat_le, if◌then◌else◌, List, [], ◌∷◌, length, Option, Some, None, Result, Ok, Err}
+use Rattle.std.specs.Prelude.{ℕ, ℤ, pos, neg_ℤ, ◌-ℤ◌, ◌-◌, ◌^◌, nat_le, Bool, if◌then◌else◌, List, [], ◌∷◌, length, Option, Some, None, Result, Ok, Err}
 use Rattle.std.specs.List.{list_all}
 use Rattle.ls_reader.specs.declared.datum.Span.{Span}
 use Rattle.ls_reader.specs.declared.datum.Datum.{Datum}
@@ -9,6 +9,7 @@ use Rattle.ls_spec.specs.declared.spec.RangeKind.{RangeKind}
 use Rattle.ls_spec.specs.declared.spec.RangeKind.TheVariants.{Integer}
 use Rattle.ls_spec.specs.declared.spec.Bound.{Bound}
 use Rattle.ls_spec.specs.declared.spec.Bound.TheVariants.{Free, Incl}
+use Rattle.ls_spec.specs.declared.spec.DimPattern.{DimPattern}
 use Rattle.ls_spec.specs.Specifier.{Specifier, range_of}
 use Rattle.ls_spec.specs.Builtins.{expansion}
 use Rattle.ls_grammar.specs.declared.refusal.RefusalKind.{RefusalKind}
@@ -30,6 +31,8 @@ pub data Level : Type 0 where
   none_of : Datum → Level
   -- CONS of a car and a cdr; where there is no datum, of any object
   pair_of : Option Datum → Option Datum → Level
+  -- ARRAY or SIMPLE-ARRAY, the latter where the flag is set, of an element type
+  array_over : Datum → Bool → DimPattern → Level
 
 abbrev pub bad_argument : Span → Level
 bad_argument at = refused (refusal kind.BadArgument at)

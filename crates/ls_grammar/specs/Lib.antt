@@ -1,5 +1,7 @@
 pub mod Numbers
+pub mod Dimensions
 pub mod Levels
+pub mod ArrayLevels
 pub mod BuiltinLevels
 pub mod Saying
 pub mod Denoting

@@ -3,7 +3,7 @@ use Rattle.std.specs.Prelude.{ℕ, ℤ, pos, ◌≡◌, refl, ◌<◌, ◌≤◌
 use Rattle.std.proofs.Math.Dec.{lit<}
 use Rattle.std.proofs.lemmas.Bool.{ltb-true}
 use Rattle.ls_object.specs.declared.rat.Rat.{Rat}
-use Rattle.ls_object.specs.declared.rat.TheConstants.{NUMERATOR_LIMIT}
+use Rattle.ls_object.specs.Limits.{numerator_limit}
 use Rattle.ls_object.specs.Integers.{integer}
 use Rattle.ls_reader.specs.declared.datum.Span.{Span}
 use Rattle.ls_reader.specs.declared.datum.Datum.{Datum}
@@ -36,13 +36,13 @@ abbrev pub written : Literal → Option Rat
 written (literal.Value small) = Some small.value
 written literal.Wide = None
 
-abbrev pub whole_if : (z : ℤ) (fits : Bool) → nat_lt (unsigned_abs z) NUMERATOR_LIMIT ≡ fits → Rat
-whole_if z true e = integer z (ltb-true (unsigned_abs z) NUMERATOR_LIMIT e)
+abbrev pub whole_if : (z : ℤ) (fits : Bool) → nat_lt (unsigned_abs z) numerator_limit ≡ fits → Rat
+whole_if z true e = integer z (ltb-true (unsigned_abs z) numerator_limit e)
 whole_if z false e = integer (pos 0) (lit< tt)
 
 -- the rational z/1; 0 in place of a number that passes the limits of rationals
 abbrev pub whole : ℤ → Rat
-whole z = whole_if z (nat_lt (unsigned_abs z) NUMERATOR_LIMIT) refl
+whole z = whole_if z (nat_lt (unsigned_abs z) numerator_limit) refl
 
 -- the symbol `*`
 abbrev pub is_star_name : Option Builtin → Bool

@@ -12,7 +12,7 @@ use Rattle.ls_env.specs.declared.status.NameStatus.{NameStatus}
 use Rattle.ls_env.specs.declared.status.NameStatus.TheVariants as status
 use Rattle.ls_env.specs.Environments.{Environment}
 use Rattle.ls_env.specs.Naming.{quote_symbol, status_of}
-use Rattle.ls_grammar.specs.Levels.{Level, refused, known, object, members, all_of, some_of, none_of, pair_of, bad_argument, not_built}
+use Rattle.ls_grammar.specs.Levels.{Level, refused, known, object, members, all_of, some_of, none_of, pair_of, array_over, bad_argument, not_built}
 use Rattle.ls_grammar.specs.BuiltinLevels.{built_atom, built_list}
 
 -- ---- names that are not built in
@@ -65,3 +65,4 @@ weight_of (all_of ds) = 1
 weight_of (some_of ds) = 1
 weight_of (none_of d) = 1
 weight_of (pair_of car cdr) = 1
+weight_of (array_over d simple dims) = 1

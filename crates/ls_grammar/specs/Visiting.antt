@@ -13,7 +13,7 @@ use Rattle.ls_grammar.specs.declared.refusal.Refusal.{Refusal}
 use Rattle.ls_grammar.specs.declared.refusal.Stop.{Stop}
 use Rattle.ls_grammar.specs.declared.refusal.Stop.TheVariants as stop
 use Rattle.ls_grammar.specs.Numbers.{refusal}
-use Rattle.ls_grammar.specs.Levels.{Level, refused, known, object, members, all_of, some_of, none_of, pair_of}
+use Rattle.ls_grammar.specs.Levels.{Level, refused, known, object, members, all_of, some_of, none_of, pair_of, array_over}
 use Rattle.ls_grammar.specs.Saying.{level, weight_of}
 use Rattle.ls_grammar.specs.Denoting.{eql_of, Denotes}
 
@@ -65,6 +65,7 @@ below visits_of depth (all_of ds) = flat_map visits_of ds
 below visits_of depth (some_of ds) = flat_map visits_of ds
 below visits_of depth (none_of d) = visits_of d
 below visits_of depth (pair_of car cdr) = part_visits visits_of car ++ part_visits visits_of cdr
+below visits_of depth (array_over d simple dims) = visits_of d
 
 -- The visits of a datum at a depth, first its own, then those of its arguments from left to right. `left` levels are
 -- left; a datum past the last of them is not looked at.

@@ -1,27 +1,26 @@
 // What a datum says as a specifier, one level deep.
 
-ghost use Rattle.std.specs.Prelude.{◌≡◌, ◌≤◌, ◌^◌, [], ◌∷◌, pos, unsigned_abs, IsTrue, IfOk};
+ghost use Rattle.std.specs.Prelude.{◌≡◌, ◌≤◌, ◌^◌, pos, unsigned_abs, IsTrue, IfOk};
 ghost use Rattle.std.specs.List.{list_all};
-ghost use Rattle.ls_tables.specs.Builtins.{builtin_of, stands_alone};
-ghost use Rattle.ls_env.specs.Naming.{quote_symbol};
+ghost use Rattle.ls_tables.specs.Builtins.{stands_alone};
 ghost use Rattle.ls_spec.specs.Meaning.{specifier};
+ghost use Rattle.ls_spec.specs.Specifier.{string_of};
 ghost use Rattle.ls_grammar.specs.Levels as spec;
-ghost use Rattle.ls_grammar.specs.BuiltinLevels.{built_atom, built_list};
-ghost use Rattle.ls_grammar.specs.Saying as saying;
+ghost use Rattle.ls_grammar.specs.ArrayLevels as array_spec;
+ghost use Rattle.ls_grammar.specs.Saying.{weight_of};
 ghost use Rattle.ls_grammar.specs.Numbers.{whole, is_star, refusal, IsSizeWithin};
 ghost use Rattle.ls_spec.specs.declared.spec.Bound.TheVariants.{Incl};
 ghost use Rattle.ls_grammar.specs.steps.Answering.{lent, shown, IsExpandable};
 
+use crate::array::{Dims, place_of};
 use crate::number::{bits_of, bound_of, is_star, refusal, size_of};
 use crate::refusal::{Refusal, RefusalKind};
-use ls_env::{Env, NameStatus};
-use ls_object::{Rat, Symbol};
-use ls_reader::{Datum, Form, Span};
+use ls_object::Rat;
+use ls_reader::{Datum, Span};
 use ls_spec::{Bound, RangeKind, Spec};
-use ls_tables::{Builtin, builtin};
-use std::slice;
+use ls_tables::Builtin;
 
-/// A part of a CONS, with its datum lent.
+/// A part of a CONS, or an element type, with its datum lent.
 #[derive(Drop)]
 pub(crate) enum Part<'a> {
     /// Any object.
@@ -49,9 +48,13 @@ pub(crate) enum Level<'a> {
     NoneOf(&'a Datum),
     /// CONS of a car and a cdr.
     ConsOf(Part<'a>, Part<'a>),
+    /// ARRAY, or SIMPLE-ARRAY where the flag is set, of an element type with dimensions.
+    ArrayOf(Part<'a>, bool, Dims<'a>),
+    /// Vectors, simple ones where the flag is set, with the element type of a name, of a length or of any.
+    VectorsOver(Builtin, bool, Option<u64>),
 }
 
-fn refused(kind: RefusalKind, at: Span) -> Level<'static>
+pub(crate) fn refused(kind: RefusalKind, at: Span) -> Level<'static>
     ensures value { shown result ≡ spec.refused (refusal kind at) }
     ensures expandable { IsExpandable result }
 {
@@ -71,7 +74,7 @@ fn range(kind: RangeKind, lo: Result<Bound, Refusal>, hi: Result<Bound, Refusal>
     }
 }
 
-fn range_level(kind: RangeKind, at: Span, args: &[Datum]) -> Level<'static>
+pub(crate) fn range_level(kind: RangeKind, at: Span, args: &[Datum]) -> Level<'static>
     ensures value { shown result ≡ spec.range_level kind at args.now }
     ensures expandable { IsExpandable result }
 {
@@ -137,7 +140,7 @@ fn unsigned_bytes(size: u128) -> Spec
     from_to(0, power_of_two(size) - 1)
 }
 
-fn mod_level(at: Span, args: &[Datum]) -> Level<'static>
+pub(crate) fn mod_level(at: Span, args: &[Datum]) -> Level<'static>
     ensures value { shown result ≡ spec.mod_level at args.now }
     ensures expandable { IsExpandable result }
 {
@@ -150,7 +153,7 @@ fn mod_level(at: Span, args: &[Datum]) -> Level<'static>
     }
 }
 
-fn signed_level(at: Span, args: &[Datum]) -> Level<'static>
+pub(crate) fn signed_level(at: Span, args: &[Datum]) -> Level<'static>
     ensures value { shown result ≡ spec.signed_level at args.now }
     ensures expandable { IsExpandable result }
 {
@@ -176,7 +179,7 @@ fn signed(size: Result<u128, Refusal>) -> Level<'static>
     }
 }
 
-fn unsigned_level(at: Span, args: &[Datum]) -> Level<'static>
+pub(crate) fn unsigned_level(at: Span, args: &[Datum]) -> Level<'static>
     ensures value { shown result ≡ spec.unsigned_level at args.now }
     ensures expandable { IsExpandable result }
 {
@@ -209,7 +212,7 @@ fn are_stars(args: &[Datum]) -> bool
 }
 
 /// A name all of whose arguments are `*`, of which there may be so many.
-fn starred_level(
+pub(crate) fn starred_level(
     otherwise: RefusalKind,
     most: usize,
     name: Builtin,
@@ -229,7 +232,7 @@ fn starred_level(
     }
 }
 
-fn not_level(at: Span, args: &[Datum]) -> Level<'_>
+pub(crate) fn not_level(at: Span, args: &[Datum]) -> Level<'_>
     ensures value { shown result ≡ spec.not_level at args.now }
     ensures expandable { IsExpandable result }
 {
@@ -239,7 +242,7 @@ fn not_level(at: Span, args: &[Datum]) -> Level<'_>
     }
 }
 
-fn eql_level(at: Span, args: &[Datum]) -> Level<'_>
+pub(crate) fn eql_level(at: Span, args: &[Datum]) -> Level<'_>
     ensures value { shown result ≡ spec.eql_level at args.now }
     ensures expandable { IsExpandable result }
 {
@@ -249,7 +252,7 @@ fn eql_level(at: Span, args: &[Datum]) -> Level<'_>
     }
 }
 
-/// The part of a CONS that an argument is.
+/// The part of a CONS, or the element type, that an argument is.
 fn part_of(arg: &Datum) -> Part<'_>
     ensures { lent result ≡ spec.part_of arg.now }
 {
@@ -260,7 +263,7 @@ fn part_of(arg: &Datum) -> Part<'_>
     }
 }
 
-fn cons_level(at: Span, args: &[Datum]) -> Level<'_>
+pub(crate) fn cons_level(at: Span, args: &[Datum]) -> Level<'_>
     ensures value { shown result ≡ spec.cons_level at args.now }
     ensures expandable { IsExpandable result }
 {
@@ -272,134 +275,80 @@ fn cons_level(at: Span, args: &[Datum]) -> Level<'_>
     }
 }
 
-/// A list with a built-in name as its head.
-fn built_list(at: Span, args: &[Datum], name: Builtin) -> Level<'_>
-    ensures value { shown result ≡ built_list at args.now name }
+/// ARRAY, or SIMPLE-ARRAY.
+pub(crate) fn array_level(simple: bool, at: Span, args: &[Datum]) -> Level<'_>
+    ensures value { shown result ≡ array_spec.array_level simple at args.now }
     ensures expandable { IsExpandable result }
 {
-    match name {
-        Builtin::And => Level::AllOf(args),
-        Builtin::Or => Level::SomeOf(args),
-        Builtin::Not => not_level(at, args),
-        Builtin::Member => Level::Members(args),
-        Builtin::Eql => eql_level(at, args),
-        Builtin::Cons => cons_level(at, args),
-        Builtin::Integer => range_level(RangeKind::Integer, at, args),
-        Builtin::Rational => range_level(RangeKind::Rational, at, args),
-        Builtin::Mod => mod_level(at, args),
-        Builtin::SignedByte => signed_level(at, args),
-        Builtin::UnsignedByte => unsigned_level(at, args),
-        Builtin::Float
-        | Builtin::ShortFloat
-        | Builtin::SingleFloat
-        | Builtin::LongFloat
-        | Builtin::DoubleFloat
-        | Builtin::Real => starred_level(RefusalKind::FloatRange, 2, name, at, args),
-        Builtin::Complex => starred_level(RefusalKind::ComplexPart, 1, name, at, args),
-        Builtin::Function | Builtin::Values => refused(RefusalKind::FunctionList, at),
-        Builtin::Sequence
-        | Builtin::Satisfies
-        | Builtin::Array
-        | Builtin::SimpleArray
-        | Builtin::Vector
-        | Builtin::SimpleVector
-        | Builtin::BitVector
-        | Builtin::SimpleBitVector
-        | Builtin::BaseString
-        | Builtin::SimpleBaseString
-        | Builtin::String
-        | Builtin::SimpleString => refused(RefusalKind::NotBuilt, at),
+    match args {
+        [] => Level::ArrayOf(Part::Any, simple, Dims::Any),
+        [element] => Level::ArrayOf(part_of(element), simple, Dims::Any),
+        [element, dims] => Level::ArrayOf(part_of(element), simple, Dims::Of(dims)),
         _ => refused(RefusalKind::BadArgument, at),
     }
 }
 
-/// A built-in name as an atom.
-fn built_atom(at: Span, name: Builtin) -> Level<'static>
-    ensures value { shown result ≡ built_atom at name }
+fn vector_with(element: Part<'_>, length: Result<Option<u64>, Refusal>) -> Level<'_>
+    ensures value { shown result ≡ array_spec.vector_with (lent element.entry) length }
     ensures expandable { IsExpandable result }
 {
-    match name {
-        Builtin::Star => refused(RefusalKind::StarNotAllowed, at),
-        Builtin::Values => refused(RefusalKind::FunctionList, at),
-        Builtin::And | Builtin::Or | Builtin::Not | Builtin::Member | Builtin::Eql | Builtin::Mod =>
-            refused(RefusalKind::BadArgument, at),
-        Builtin::Sequence
-        | Builtin::Satisfies
-        | Builtin::Array
-        | Builtin::SimpleArray
-        | Builtin::Vector
-        | Builtin::SimpleVector
-        | Builtin::BitVector
-        | Builtin::SimpleBitVector
-        | Builtin::BaseString
-        | Builtin::SimpleBaseString
-        | Builtin::String
-        | Builtin::SimpleString => refused(RefusalKind::NotBuilt, at),
-        _ => Level::Named(name),
+    match length {
+        Err(why) => Level::Refused(why),
+        Ok(length) => Level::ArrayOf(element, false, Dims::One(length)),
     }
 }
 
-/// A name of which the file says this.
-fn level_by(status: NameStatus, at: Span, _args: &[Datum]) -> Level<'_>
-    ensures value { shown result ≡ saying.level_by status at _args.now }
+pub(crate) fn vector_level(at: Span, args: &[Datum]) -> Level<'_>
+    ensures value { shown result ≡ array_spec.vector_level at args.now }
     ensures expandable { IsExpandable result }
 {
-    match status {
-        NameStatus::Unknown => refused(RefusalKind::NotBuilt, at),
+    match args {
+        [] => Level::ArrayOf(Part::Any, false, Dims::One(None)),
+        [element] => Level::ArrayOf(part_of(element), false, Dims::One(None)),
+        [element, length] => vector_with(part_of(element), place_of(length)),
+        _ => refused(RefusalKind::BadArgument, at),
     }
 }
 
-/// The list that `'x` stands for, of QUOTE and x.
-fn quote_level<'a>(env: &Env, at: Span, quoted: &'a Datum) -> Level<'a>
-    ensures value { shown result ≡ saying.own_level env.now at quote_symbol (quoted.now ∷ []) }
+/// Vectors whose element type is that of a name, with a length as the only argument.
+pub(crate) fn named_level(
+    element: Builtin,
+    simple: bool,
+    at: Span,
+    args: &[Datum],
+) -> Level<'static>
+    requires { IsTrue (stands_alone element) }
+    ensures value { shown result ≡ array_spec.length_level (array_spec.vectors_over element simple) at args.now }
     ensures expandable { IsExpandable result }
 {
-    level_by(env.status_of_quote(), at, slice::from_ref(quoted))
-}
-
-fn atom_level<'a>(env: &Env, at: Span, symbol: &Symbol) -> Level<'a>
-    ensures value { shown result ≡ saying.atom_level env.now at symbol.now (builtin_of symbol.now) }
-    ensures expandable { IsExpandable result }
-{
-    match builtin(symbol) {
-        None => level_by(env.status(symbol), at, &[]),
-        Some(name) => built_atom(at, name),
-    }
-}
-
-fn list_level<'a>(env: &Env, at: Span, symbol: &Symbol, args: &'a [Datum]) -> Level<'a>
-    ensures value { shown result ≡ saying.list_level env.now at symbol.now args.now (builtin_of symbol.now) }
-    ensures expandable { IsExpandable result }
-{
-    match builtin(symbol) {
-        None => level_by(env.status(symbol), at, args),
-        Some(name) => built_list(at, args, name),
-    }
-}
-
-fn items_level<'a>(env: &Env, at: Span, items: &'a [Datum]) -> Level<'a>
-    ensures value { shown result ≡ saying.items_level env.now at items.now }
-    ensures expandable { IsExpandable result }
-{
-    match items {
-        [head, args @ ..] => match &head.form {
-            Form::Symbol(symbol) => list_level(env, at, symbol, args),
-            _ => refused(RefusalKind::BadArgument, at),
+    match args {
+        [] => Level::VectorsOver(element, simple, None),
+        [length] => match place_of(length) {
+            Err(why) => Level::Refused(why),
+            Ok(length) => Level::VectorsOver(element, simple, length),
         },
-        [] => refused(RefusalKind::BadArgument, at),
+        _ => refused(RefusalKind::BadArgument, at),
     }
 }
 
-/// What the datum says as a specifier, one level deep.
-pub(crate) fn level_of<'a>(env: &Env, datum: &'a Datum) -> Level<'a>
-    ensures value { shown result ≡ saying.level env.now datum.now }
+fn strings(simple: bool, dim: Option<u64>) -> Level<'static>
+    ensures value { shown result ≡ spec.known (string_of simple dim) }
     ensures expandable { IsExpandable result }
 {
-    let at = datum.span;
-    match &datum.form {
-        Form::Symbol(symbol) => atom_level(env, at, symbol),
-        Form::List(items) => items_level(env, at, items.as_slice()),
-        Form::Quote(quoted) => quote_level(env, at, quoted.get()),
+    Level::Known(Spec::StringOf { simple, dim })
+}
+
+/// STRING, or SIMPLE-STRING.
+pub(crate) fn string_level(simple: bool, at: Span, args: &[Datum]) -> Level<'static>
+    ensures value { shown result ≡ array_spec.length_level (string_of simple) at args.now }
+    ensures expandable { IsExpandable result }
+{
+    match args {
+        [] => strings(simple, None),
+        [length] => match place_of(length) {
+            Err(why) => Level::Refused(why),
+            Ok(length) => strings(simple, length),
+        },
         _ => refused(RefusalKind::BadArgument, at),
     }
 }
@@ -407,12 +356,13 @@ pub(crate) fn level_of<'a>(env: &Env, datum: &'a Datum) -> Level<'a>
 impl Level<'_> {
     /// The room that the level takes by itself.
     pub(crate) fn weight(&self) -> u64
-        ensures { result ≡ saying.weight_of (shown self.now) }
+        ensures { result ≡ weight_of (shown self.now) }
     {
         match self {
             Level::Refused(_) | Level::Known(_) | Level::Named(_) => 1,
             Level::Object(_) | Level::Members(_) => 1,
             Level::AllOf(_) | Level::SomeOf(_) | Level::NoneOf(_) | Level::ConsOf(_, _) => 1,
+            Level::ArrayOf(_, _, _) | Level::VectorsOver(_, _, _) => 1,
         }
     }
 }

@@ -6,8 +6,10 @@
 mod refusal;
 
 // What a datum says one level deep.
+mod array;
 mod level;
 mod number;
+mod saying;
 
 // The whole of it, level by level.
 mod resolving;

@@ -38,7 +38,7 @@ pub(crate) fn is_star(datum: &Datum) -> bool
     }
 }
 
-fn is_star_name(name: Option<Builtin>) -> bool
+pub(crate) fn is_star_name(name: Option<Builtin>) -> bool
     ensures { result ≡ spec.is_star_name name }
 {
     match name {

@@ -14,13 +14,14 @@ pub enum RefusalKind {
     /// The list form of FUNCTION, or VALUES.
     #[error("function types stand in declarations of functions alone")]
     FunctionList,
-    /// No symbol and no list with a symbol as its head, a wrong count of arguments, or a name where it cannot stand.
+    /// No symbol and no list with a symbol as its head, a wrong count of arguments, a name where it cannot stand, or
+    /// what is no rank, no dimension and no list of dimensions.
     #[error("no type specifier has this form")]
     BadArgument,
     /// A bound or a size that is none.
     #[error("this is no bound or size")]
     BadBound,
-    /// A number past the limits.
+    /// A number past the limits, or more dimensions than there may be.
     #[error("the number is past the limits")]
     NumberTooWide,
     /// An object of MEMBER or EQL that is no symbol, character or rational number.

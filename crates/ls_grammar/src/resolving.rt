@@ -8,17 +8,20 @@ ghost use Rattle.ls_spec.specs.Meaning.{specifier};
 ghost use Rattle.ls_spec.specs.Fits.{Fits};
 ghost use Rattle.ls_grammar.specs.declared.refusal.Refusal.{Refusal};
 ghost use Rattle.ls_grammar.specs.Denoting.{eql_of, number_point};
+ghost use Rattle.ls_grammar.specs.ArrayLevels.{elements};
 ghost use Rattle.ls_grammar.specs.steps.Answering.{lent, shown, IsExpandable, Steps, Gives, stopped};
 ghost use Rattle.ls_grammar.specs.steps.Running.{run_object, run_all, run_part, run_pair, run_level, outcome};
 ghost use Rattle.ls_grammar.specs.Visiting.{Resolves, IsReason, AnswersWith, RefusesWith, ResolvesOrIsRefused, refusal_of};
 
-use crate::level::{Level, Part, level_of};
+use crate::array::{array_over, pattern, vectors_over};
+use crate::level::{Level, Part};
 use crate::number::{refusal, written};
 use crate::refusal::{Refusal, RefusalKind, Stop};
+use crate::saying::level_of;
 use ls_env::Env;
 use ls_object::{Boxed, Items, Rat};
 use ls_reader::{Datum, Form, Span};
-use ls_spec::{Point, Spec, of_builtin};
+use ls_spec::{DimPattern, Point, Spec, of_builtin};
 use std::alloc::Global;
 
 /// How deep a specifier may be nested.
@@ -124,6 +127,31 @@ fn resolve_cons(
 }
 
 #[cycle(resolve)]
+fn resolve_array(
+    alloc: Global,
+    env: &Env,
+    element: Part<'_>,
+    simple: bool,
+    dims: DimPattern,
+    left: u32,
+    room: &mut u64,
+) -> Result<Spec, Stop>
+    ensures { Steps specifier result room.new (run_level (outcome env.now left) (elements (lent element.entry) simple dims) room.old) }
+{
+    match element {
+        Part::Any => Ok(Spec::ArrayOf {
+            elem: None,
+            simple,
+            dims,
+        }),
+        Part::Of(datum) => {
+            let element = resolve_in(alloc, env, datum, left, room)?;
+            Ok(array_over(alloc, element, simple, dims)?)
+        }
+    }
+}
+
+#[cycle(resolve)]
 fn resolve_at(
     alloc: Global,
     env: &Env,
@@ -147,6 +175,11 @@ fn resolve_at(
             Ok(Spec::Not(Boxed::new(alloc, part)?))
         }
         Level::ConsOf(car, cdr) => resolve_cons(alloc, env, car, cdr, left, room),
+        Level::ArrayOf(element, simple, dims) => {
+            let dims = pattern(alloc, dims)?;
+            resolve_array(alloc, env, element, simple, dims, left, room)
+        }
+        Level::VectorsOver(name, simple, length) => Ok(vectors_over(alloc, name, simple, length)?),
     }
 }
 

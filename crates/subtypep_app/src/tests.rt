@@ -1,6 +1,7 @@
 // Runs over memory, and what they leave.
 
 mod answers;
+mod arrays;
 mod budgets;
 mod conses;
 mod refusals;

@@ -12,6 +12,9 @@ decreases-resolve_at l = 4 * l.left + 3
 abbrev pub decreases-resolve_cons : goal.decreases-resolve_cons
 decreases-resolve_cons l = 4 * l.left + 2
 
+abbrev pub decreases-resolve_array : goal.decreases-resolve_array
+decreases-resolve_array l = 4 * l.left + 2
+
 abbrev pub decreases-resolve_part : goal.decreases-resolve_part
 decreases-resolve_part l = 4 * l.left + 1
 
