@@ -4,12 +4,12 @@ use Rattle.std.proofs.lemmas.List.{map-append}
 use Rattle.std.proofs.lemmas.List.Elements.{All-push, Contains-append_left, Contains-push}
 use Rattle.ls_object.specs.Universe.{LispObject, node, number, character, symbol, pair, array, structure, opaque, Structures, IsObject}
 use Rattle.ls_points.specs.Classes.{IsNumber, IsCharacter, IsSymbol, IsOpaque, IsStructure}
+use Rattle.ls_arrays.specs.Arrays.{IsArray}
 use Rattle.ls_spec.specs.Specifier.{Specifier}
 use Rattle.ls_spec.specs.Truth.{Learnt}
 use Rattle.ls_cells.specs.declared.rows.Row.{Row}
 use Rattle.ls_cells.specs.Rows.{signs_of, AreLong}
 use Rattle.ls_cells.specs.Cells.{signs_at, HasObject, AddsRows, IsNoCons}
-use Rattle.ls_cells.specs.steps.Classes.{IsArray}
 
 -- the old rows with a row behind them, unless it was there
 abbrev pub with_row : Bool → List Row → Row → List Row

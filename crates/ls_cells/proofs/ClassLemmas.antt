@@ -1,5 +1,5 @@
 -- The objects that stand for a class have the truth values of the whole class.
-use Rattle.std.proofs.Common.{◌≡◌, ◌∙◌, ◌↔◌, ◌⊎◌, ◌+◌, inl, inr, refl, ap, sym, subst, arith, Bool, true, false, List, [], ◌∷◌, ◌++◌, map, Decides, All, Contains, MatchBool}
+use Rattle.std.proofs.Common.{◌≡◌, ◌∙◌, ◌↔◌, ◌⊎◌, inl, inr, refl, ap, sym, subst, arith, Bool, true, false, List, [], ◌∷◌, ◌++◌, map, Decides, All, Contains, MatchBool}
 use Rattle.std.specs.List.{AllByRecursion}
 use Rattle.std.proofs.lemmas.List.Elements.{recursion_from_All, Contains-push_cases}
 use Rattle.ls_object.specs.declared.object.Object.{Object}
@@ -9,7 +9,6 @@ use Rattle.ls_spec.specs.declared.spec.Spec.{Spec}
 use Rattle.ls_spec.specs.Specifier.{Specifier}
 use Rattle.ls_spec.specs.Meaning.{specifier}
 use Rattle.ls_spec.specs.Membership.{Belongs}
-use Rattle.ls_spec.specs.Fits.{IsAtom}
 use Rattle.ls_points.specs.Members.{IsFit, IsFitIn}
 use Rattle.ls_spec.specs.Regions.{AreInSameAtoms, IsRepresented}
 use Rattle.ls_spec.specs.Truth.{Learnt, holds, IsLearnt}
@@ -87,7 +86,3 @@ object_row structures learnt atoms row x old new fresh is e object unmarked made
 pub fit_atoms : (own : Structures) (atoms : List Spec) → AllByRecursion (IsFitIn own) atoms → AllByRecursion IsFit atoms
 fit_atoms own [] h = tt
 fit_atoms own (a ∷ atoms) h = ((h.0.0, h.0.1.1), fit_atoms own atoms h.1)
-
-pub are_atoms : (own : Structures) (atoms : List Spec) → AllByRecursion (IsFitIn own) atoms → AllByRecursion (λ a. IsAtom (specifier a)) atoms
-are_atoms own [] h = tt
-are_atoms own (a ∷ atoms) h = (h.0.0, are_atoms own atoms h.1)

@@ -1,5 +1,5 @@
 -- What goes down from a list of specifiers to its atoms, its cars and its cdrs.
-use Rattle.std.proofs.Common.{◌≤◌, List, [], ◌∷◌, arith, All, get_or}
+use Rattle.std.proofs.Common.{ℕ, zero, suc, ◌≡◌, ◌≤◌, refl, sym, subst, Bool, true, false, true≢false, if◌then◌else◌, List, [], ◌∷◌, arith, All, Decides, get_or}
 use Rattle.std.specs.List.{AllByRecursion, flat_map}
 use Rattle.std.proofs.lemmas.List.Elements.{All-from_recursion, recursion_from_All}
 use Rattle.ls_object.specs.Universe.{Structures}
@@ -10,12 +10,15 @@ use Rattle.ls_spec.specs.Meaning.{specifiers_of}
 use Rattle.ls_spec.specs.Atoms.{leaves, leaves_of_all, atoms_of}
 use Rattle.ls_spec.specs.Limits.{largest_depth}
 use Rattle.ls_spec.specs.Fits.{IsAtom, Fits, HaveKnownNames, HaveSmallNumbers, greatest_depth}
+use Rattle.ls_spec.specs.Distinct.{same}
+use Rattle.ls_spec.specs.Membership.{UpgradesTo}
 use Rattle.ls_spec.specs.Truth.{Learnt, IsLearnt, AreLearnt}
-use Rattle.ls_spec.proofs.DistinctLemmas.{all_of_distinct}
+use Rattle.ls_spec.proofs.DistinctLemmas.{Decides-same, all_of_distinct}
 use Rattle.ls_spec.proofs.ListLemmas.{AllByRecursion-append, AllByRecursion-weaker}
 use Rattle.ls_lists.specs.Sides.{car_of, cdr_of, cars_of, cdrs_of}
 use Rattle.ls_points.specs.Classes.{IsFitAtomOf}
 use Rattle.ls_cells.specs.Cells.{IsBuilt, AreBuilt}
+use Rattle.ls_cells.specs.Codes.{Codes, AreUpgraded, IsKnown, HasCodes, HaveCodes}
 
 -- it holds of each
 abbrev pub AllOf : (Specifier → Type 0) → Specifiers → Type 0
@@ -98,7 +101,7 @@ fits_each : (structures : Structures) (ss : Specifiers) → HaveKnownNames struc
 fits_each structures no_more h n d = tt
 fits_each structures (also s ss) h n d = ((h.0, (n.0, omega arith)), fits_each structures ss h.1 n.1 (omega arith))
 
-fits_down : (structures : Structures) → GoesDown (Fits structures)
+pub fits_down : (structures : Structures) → GoesDown (Fits structures)
 fits_down structures = record {
   of_and = λ ss h. fits_each structures ss h.0 h.1.0 (let d = h.1.1 in omega arith);
   of_or = λ ss h. fits_each structures ss h.0 h.1.0 (let d = h.1.1 in omega arith);
@@ -112,8 +115,16 @@ built_each : (ss : Specifiers) → AreBuilt ss → AllOf IsBuilt ss
 built_each no_more h = tt
 built_each (also s ss) h = (h.0, built_each ss h.1)
 
-built_down : GoesDown IsBuilt
+pub built_down : GoesDown IsBuilt
 built_down = record { of_and = λ ss h. built_each ss h; of_or = λ ss h. built_each ss h; of_not = λ s h. h; of_car = λ a b h. h.0; of_cdr = λ a b h. h.1 }
+
+-- specifiers of whose element types the codes were learnt
+codes_each : (codes : Codes) (ss : Specifiers) → HaveCodes codes ss → AllOf (HasCodes codes) ss
+codes_each codes no_more h = tt
+codes_each codes (also s ss) h = (h.0, codes_each codes ss h.1)
+
+codes_down : (codes : Codes) → GoesDown (HasCodes codes)
+codes_down codes = record { of_and = λ ss h. codes_each codes ss h; of_or = λ ss h. codes_each codes ss h; of_not = λ s h. h; of_car = λ a b h. h.0; of_cdr = λ a b h. h.1 }
 
 -- specifiers of which all is learnt
 learnt_each : (structures : Structures) (learnt : Learnt) (ss : Specifiers) → AreLearnt structures learnt ss → AllOf (IsLearnt structures learnt) ss
@@ -154,6 +165,22 @@ built_cars list h = All-from_recursion IsBuilt (cars_of list) (cars_have IsBuilt
 pub built_cdrs : (list : List Specifier) → All IsBuilt list → All IsBuilt (cdrs_of list)
 built_cdrs list h = All-from_recursion IsBuilt (cdrs_of list) (cdrs_have IsBuilt built_down list (recursion_from_All IsBuilt (atoms_of list) (built_atoms list h)))
 
+-- and of lists of whose element types the codes were learnt
+pub codes_atoms : (codes : Codes) (list : List Specifier) → All (HasCodes codes) list → All (HasCodes codes) (atoms_of list)
+codes_atoms codes list h =
+    let P = HasCodes codes in
+    All-from_recursion P (atoms_of list) (atoms_only P (codes_down codes) list (recursion_from_All P list h))
+
+pub codes_cars : (codes : Codes) (list : List Specifier) → All (HasCodes codes) list → All (HasCodes codes) (cars_of list)
+codes_cars codes list h =
+    let P = HasCodes codes in
+    All-from_recursion P (cars_of list) (cars_have P (codes_down codes) list (atoms_only P (codes_down codes) list (recursion_from_All P list h)))
+
+pub codes_cdrs : (codes : Codes) (list : List Specifier) → All (HasCodes codes) list → All (HasCodes codes) (cdrs_of list)
+codes_cdrs codes list h =
+    let P = HasCodes codes in
+    All-from_recursion P (cdrs_of list) (cdrs_have P (codes_down codes) list (atoms_only P (codes_down codes) list (recursion_from_All P list h)))
+
 -- where all is learnt of the atoms of a list, so it is of those of its cars and of its cdrs
 pub learnt_cars : (structures : Structures) (learnt : Learnt) (list : List Specifier) → All (IsLearnt structures learnt) (atoms_of list) → All (IsLearnt structures learnt) (atoms_of (cars_of list))
 learnt_cars structures learnt list h =
@@ -165,34 +192,50 @@ learnt_cdrs structures learnt list h =
     let P = IsLearnt structures learnt in let d = learnt_down structures learnt in
     All-from_recursion P (atoms_of (cdrs_of list)) (atoms_only P d (cdrs_of list) (cdrs_have P d list (recursion_from_All P (atoms_of list) h)))
 
--- what is known of structure names alone
-abbrev pub names_learnt : Structures → Learnt
-names_learnt structures = record { code_of = λ e. 0; under = under_in structures }
+-- what is known where these codes were learnt: of an element type the first of them that is its own, and all structure
+-- names
+abbrev pub code_in : Codes → Specifier → ℕ
+code_in [] e = 0
+code_in (p ∷ codes) e = if same p.0 e then p.1 else code_in codes e
+
+abbrev pub learnt_by : Structures → Codes → Learnt
+learnt_by structures codes = record { code_of = code_in codes; under = under_in structures }
+
+-- a code that was learnt is right
+pub code_right : (structures : Structures) (codes : Codes) (e : Specifier) → AreUpgraded structures codes → IsKnown codes e → UpgradesTo structures e (code_in codes e)
+code_right structures [] e u (i, l, f) = absurd (omega (arith, l))
+code_right structures (p ∷ codes) e u k = by (same p.0 e) (Decides-same p.0 e) k (λ more. code_right structures codes e u.1 more)
+  where
+    by : (b : Bool) → Decides b (p.0 ≡ e) → IsKnown (p ∷ codes) e → (IsKnown codes e → UpgradesTo structures e (code_in codes e)) → UpgradesTo structures e (if b then p.1 else code_in codes e)
+    by true d h f = subst (λ s. UpgradesTo structures s p.1) (d.0 refl) u.0
+    by false d (zero, l, is) f = absurd (true≢false (sym (d.1 is)))
+    by false d (suc i, l, is) f = f (i, omega arith, is)
 
 mutual
   -- it is all that has to be known of specifiers that are built
-  learnt_built : (structures : Structures) (s : Specifier) → IsInclusionOrder structures → IsBuilt s → IsLearnt structures (names_learnt structures) s
-  learnt_built structures (and_of ss) o h = learnt_all_built structures ss o h
-  learnt_built structures (or_of ss) o h = learnt_all_built structures ss o h
-  learnt_built structures (not_of s) o h = learnt_built structures s o h
-  learnt_built structures (cons_of a b) o h = (learnt_built structures a o h.0, learnt_built structures b o h.1)
-  learnt_built structures (array_of e simple dims) o h = absurd h
-  learnt_built structures (structure_under y) o h = λ x. Decides-under_in structures x y o
-  learnt_built structures all_objects o h = tt
-  learnt_built structures no_objects o h = tt
-  learnt_built structures (eql_to p) o h = tt
-  learnt_built structures (range_of k lo hi) o h = tt
-  learnt_built structures (chars_of k) o h = tt
-  learnt_built structures (symbols_of k) o h = tt
-  learnt_built structures (kind_of k) o h = tt
-  learnt_built structures any_structure o h = tt
-  learnt_built structures (array_any simple dims) o h = tt
-  learnt_built structures (string_of simple dim) o h = tt
-  learnt_built structures (satisfies p) o h = tt
+  learnt_built : (structures : Structures) (codes : Codes) (s : Specifier) → AreUpgraded structures codes → IsInclusionOrder structures → HasCodes codes s → IsBuilt s → IsLearnt structures (learnt_by structures codes) s
+  learnt_built structures codes (and_of ss) u o k h = learnt_all_built structures codes ss u o k h
+  learnt_built structures codes (or_of ss) u o k h = learnt_all_built structures codes ss u o k h
+  learnt_built structures codes (not_of s) u o k h = learnt_built structures codes s u o k h
+  learnt_built structures codes (cons_of a b) u o k h = (learnt_built structures codes a u o k.0 h.0, learnt_built structures codes b u o k.1 h.1)
+  learnt_built structures codes (array_of e simple dims) u o k h = code_right structures codes e u k
+  learnt_built structures codes (structure_under y) u o k h = λ x. Decides-under_in structures x y o
+  learnt_built structures codes all_objects u o k h = tt
+  learnt_built structures codes no_objects u o k h = tt
+  learnt_built structures codes (eql_to p) u o k h = tt
+  learnt_built structures codes (range_of r lo hi) u o k h = tt
+  learnt_built structures codes (chars_of c) u o k h = tt
+  learnt_built structures codes (symbols_of c) u o k h = tt
+  learnt_built structures codes (kind_of c) u o k h = tt
+  learnt_built structures codes any_structure u o k h = tt
+  learnt_built structures codes (array_any simple dims) u o k h = tt
+  learnt_built structures codes (string_of simple dim) u o k h = tt
+  learnt_built structures codes (satisfies p) u o k h = tt
 
-  learnt_all_built : (structures : Structures) (ss : Specifiers) → IsInclusionOrder structures → AreBuilt ss → AreLearnt structures (names_learnt structures) ss
-  learnt_all_built structures no_more o h = tt
-  learnt_all_built structures (also s ss) o h = (learnt_built structures s o h.0, learnt_all_built structures ss o h.1)
+  learnt_all_built : (structures : Structures) (codes : Codes) (ss : Specifiers) → AreUpgraded structures codes → IsInclusionOrder structures → HaveCodes codes ss → AreBuilt ss → AreLearnt structures (learnt_by structures codes) ss
+  learnt_all_built structures codes no_more u o k h = tt
+  learnt_all_built structures codes (also s ss) u o k h = (learnt_built structures codes s u o k.0 h.0, learnt_all_built structures codes ss u o k.1 h.1)
 
-pub names_are_all : (structures : Structures) (list : List Specifier) → IsInclusionOrder structures → All IsBuilt list → All (IsLearnt structures (names_learnt structures)) list
-names_are_all structures list o h k d lt = learnt_built structures (get_or list k d) o (h k d lt)
+pub codes_are_all : (structures : Structures) (codes : Codes) (list : List Specifier) → AreUpgraded structures codes → IsInclusionOrder structures → All (HasCodes codes) list → All IsBuilt list
+    → All (IsLearnt structures (learnt_by structures codes)) list
+codes_are_all structures codes list u o k h i d lt = learnt_built structures codes (get_or list i d) u o (k i d lt) (h i d lt)

@@ -5,15 +5,15 @@ use Rattle.std.proofs.Common.{arith}
 use Rattle.std.proofs.lemmas.List.{length-map}
 use Rattle.std.proofs.lemmas.Nat.Gcd.{IsGcd-from_mod, IsGcd-from_zero}
 use Rattle.ls_object.specs.declared.kind.Kind.TheVariants.{OtherStructure}
-use Rattle.ls_object.specs.Universe.{LispObject, node, number, character, symbol, structure, opaque, Structures, IsObject, IsPlain, plain}
+use Rattle.ls_object.specs.Universe.{LispObject, node, number, character, symbol, array, structure, opaque, Structures, IsObject, IsPlain, plain}
 use Rattle.ls_spec.specs.declared.spec.Spec.{Spec}
 use Rattle.ls_spec.specs.declared.spec.Point.TheVariants as point
-use Rattle.ls_spec.specs.Specifier.{Specifier, all_objects, no_objects, and_of, or_of, not_of, eql_to, range_of, chars_of, symbols_of, kind_of, structure_under, any_structure, satisfies}
+use Rattle.ls_spec.specs.Specifier.{Specifier, all_objects, no_objects, and_of, or_of, not_of, eql_to, range_of, chars_of, symbols_of, kind_of, structure_under, any_structure, array_any, array_of, string_of, satisfies}
 use Rattle.ls_spec.specs.Meaning.{specifier}
 use Rattle.ls_spec.specs.Truth.{Learnt, holds}
 use Rattle.ls_points.specs.Classes.{IsStructure}
 use Rattle.ls_cells.specs.declared.idle.Class.{Class}
-use Rattle.ls_cells.specs.declared.idle.Class.TheVariants.{Numbers, Characters, Symbols, Opaques, Structs}
+use Rattle.ls_cells.specs.declared.idle.Class.TheVariants.{Numbers, Characters, Symbols, Opaques, Structs, Arrays}
 use Rattle.ls_cells.specs.declared.rows.Row.{Row}
 use Rattle.ls_cells.specs.Signs.{tabulate, at}
 use Rattle.ls_cells.specs.Rows.{signs_of, origin_object}
@@ -23,7 +23,7 @@ use Rattle.ls_cells.proofs.AddLemmas.{with_row, adds_row}
 use Rattle.ls_cells.proofs.ColumnLemmas.{in_none}
 use Rattle.ls_cells.proofs.TabulateLemmas.{is_tabulate}
 
--- at a number, a character, a symbol, an opaque object and a structure
+-- at a number, a character, a symbol, an opaque object, a structure and an array
 at_number : (learnt : Learnt) (s : Specifier) (o : LispObject) → IsOf Numbers o → may_hold Numbers s ≡ false → holds learnt s o ≡ false
 at_number learnt all_objects o h e = absurd (true≢false e)
 at_number learnt no_objects o h e = refl
@@ -96,6 +96,22 @@ at_structure learnt (eql_to (point.Sym s)) (node marks (structure x)) h e = refl
 at_structure learnt _ (node marks (structure x)) h e = refl
 at_structure learnt _ (node marks _) h e = absurd h
 
+at_array : (learnt : Learnt) (s : Specifier) (o : LispObject) → IsOf Arrays o → may_hold Arrays s ≡ false → holds learnt s o ≡ false
+at_array learnt all_objects o h e = absurd (true≢false e)
+at_array learnt no_objects o h e = refl
+at_array learnt (and_of ss) o h e = absurd (true≢false e)
+at_array learnt (or_of ss) o h e = absurd (true≢false e)
+at_array learnt (not_of s) o h e = absurd (true≢false e)
+at_array learnt (satisfies p) o h e = absurd (true≢false e)
+at_array learnt (array_any simple dims) o h e = absurd (true≢false e)
+at_array learnt (array_of x simple dims) o h e = absurd (true≢false e)
+at_array learnt (string_of simple dim) o h e = absurd (true≢false e)
+at_array learnt (eql_to (point.Number r)) (node marks (array k simple dims)) h e = refl
+at_array learnt (eql_to (point.Char c)) (node marks (array k simple dims)) h e = refl
+at_array learnt (eql_to (point.Sym s)) (node marks (array k simple dims)) h e = refl
+at_array learnt _ (node marks (array k simple dims)) h e = refl
+at_array learnt _ (node marks _) h e = absurd h
+
 -- and at the opaque object that is made for structures
 at_other : (learnt : Learnt) (s : Specifier) → may_hold Structs s ≡ false → holds learnt s (node [] (opaque OtherStructure)) ≡ false
 at_other learnt all_objects e = absurd (true≢false e)
@@ -118,6 +134,7 @@ in_no_atom learnt Characters s o h e = at_character learnt s o h e
 in_no_atom learnt Symbols s o h e = at_symbol learnt s o h e
 in_no_atom learnt Opaques s o h e = at_opaque learnt s o h e
 in_no_atom learnt Structs s o h e = at_structure learnt s o h e
+in_no_atom learnt Arrays s o h e = at_array learnt s o h e
 
 made_in_no_atom : (learnt : Learnt) (class : Class) (s : Specifier) → may_hold class s ≡ false → holds learnt s (node [] (some_shape class)) ≡ false
 made_in_no_atom learnt Numbers s e = at_number learnt s (node [] (some_shape Numbers)) tt e
@@ -125,6 +142,7 @@ made_in_no_atom learnt Characters s e = at_character learnt s (node [] (some_sha
 made_in_no_atom learnt Symbols s e = at_symbol learnt s (node [] (some_shape Symbols)) tt e
 made_in_no_atom learnt Opaques s e = at_opaque learnt s (node [] (some_shape Opaques)) tt e
 made_in_no_atom learnt Structs s e = at_other learnt s e
+made_in_no_atom learnt Arrays s e = at_array learnt s (node [] (some_shape Arrays)) tt e
 
 not_true : (b c : Bool) → (not b && c) ≡ true → (b ≡ false) × (c ≡ true)
 not_true true c h = absurd (true≢false (sym h))
@@ -163,6 +181,7 @@ made_object structures Characters = (tt, refl)
 made_object structures Symbols = (tt, ((refl, (refl, (refl, (refl, (refl, (refl, (refl, (refl, (refl, (refl, (refl, tt))))))))))), (refl, (refl, (refl, tt)))))
 made_object structures Opaques = (tt, tt)
 made_object structures Structs = (tt, tt)
+made_object structures Arrays = (tt, omega arith)
 
 made_plain : (class : Class) → plain (node [] (some_shape class)) ≡ node [] (some_shape class)
 made_plain Numbers = refl
@@ -170,6 +189,7 @@ made_plain Characters = refl
 made_plain Symbols = refl
 made_plain Opaques = refl
 made_plain Structs = refl
+made_plain Arrays = refl
 
 pub made_unmarked : (class : Class) (x : LispObject) → x ≡ node [] (some_shape class) → IsPlain x
 made_unmarked class x e = ap plain e ∙ made_plain class ∙ sym e

@@ -1,9 +1,12 @@
 pub mod AddLemmas
+pub mod ArrayCountLemmas
 pub mod ArrayLemmas
+pub mod AskingLemmas
 pub mod AtomLemmas
 pub mod BeganLemmas
 pub mod BitLemmas
 pub mod ClassLemmas
+pub mod CodeLemmas
 pub mod ColumnLemmas
 pub mod ConsLemmas
 pub mod CountLemmas

@@ -1,6 +1,6 @@
 -- The objects that stand for the classes are among the candidates.
-use Rattle.std.proofs.Common.{ℕ, zero, suc, ◌+◌, ◌*◌, ◌≤◌, arith, List, [], ◌∷◌, map, Bool, if◌then◌else◌}
-use Rattle.std.specs.List.{count_by, flat_map}
+use Rattle.std.proofs.Common.{ℕ, ◌+◌, ◌*◌, ◌≤◌, arith, List, [], ◌∷◌, map, Bool, if◌then◌else◌}
+use Rattle.std.specs.List.{count_by}
 use Rattle.std.proofs.lemmas.List.Sums.{sum_by-cons}
 use Rattle.ls_spec.specs.declared.spec.Spec.{Spec}
 use Rattle.ls_spec.specs.declared.spec.Point.TheVariants as point
@@ -8,7 +8,7 @@ use Rattle.ls_spec.specs.Specifier.{Specifier, eql_to, range_of, kind_of, struct
 use Rattle.ls_spec.specs.Meaning.{specifier}
 use Rattle.ls_points.specs.Classes as class
 use Rattle.ls_points.specs.Members.{number_limit, character_limit, symbol_limit, kind_limit, structure_limit}
-use Rattle.ls_lists.specs.Candidates.{is_range, is_single, is_structure, is_kind, element_codes, shapes, pattern_of, arrays, candidates_of_atoms}
+use Rattle.ls_lists.specs.Candidates.{is_range, is_single, is_structure, is_kind, arrays, candidates_of_atoms}
 
 -- whether an atom passes a test, as a number
 abbrev one : Bool → ℕ
@@ -40,17 +40,7 @@ counts (s ∷ l) =
     let d = sum_by-cons (λ x. one (is_kind x)) s l in
     omega arith
 
--- a product of numbers that are not 0
-some_product : (a b : ℕ) → 1 ≤ 2 * (a + 1) * (1 + b)
-some_product a zero = omega arith
-some_product a (suc b) = grind arith
-
--- an array is among them
-some_array : (l : List Specifier) → 1 ≤ arrays l
-unfolding arrays
-some_array l = some_product (element_codes l) (shapes (flat_map pattern_of l))
-
--- all classes together, and one array
-pub limits_are : (atoms : List Spec) → number_limit atoms + character_limit atoms + symbol_limit atoms + kind_limit atoms + structure_limit atoms + 1 ≤ candidates_of_atoms (map specifier atoms)
+-- all classes together, and the arrays
+pub limits_are : (atoms : List Spec) → number_limit atoms + character_limit atoms + symbol_limit atoms + kind_limit atoms + structure_limit atoms + arrays (map specifier atoms) ≤ candidates_of_atoms (map specifier atoms)
 unfolding candidates_of_atoms
-limits_are atoms = let e = counts (map specifier atoms) in let f = some_array (map specifier atoms) in omega arith
+limits_are atoms = let e = counts (map specifier atoms) in omega arith

@@ -4,6 +4,7 @@ use Rattle.std.specs.List.{AllByRecursion, flat_map, Contains}
 use Rattle.std.proofs.lemmas.List.{length-map}
 use Rattle.std.proofs.lemmas.List.Elements.{All-nil}
 use Rattle.ls_object.specs.Universe.{LispObject, node, number, character, symbol, pair, array, structure, opaque, Structures, IsObject}
+use Rattle.ls_object.specs.declared.table.Code.{Code}
 use Rattle.ls_spec.specs.declared.spec.Spec.{Spec}
 use Rattle.ls_spec.specs.Specifier.{Specifier, cons_of}
 use Rattle.ls_spec.specs.Meaning.{specifier}
@@ -24,9 +25,10 @@ use Rattle.ls_cells.specs.declared.rows.Row.{Row}
 use Rattle.ls_cells.specs.declared.cells.Cells.{Cells}
 use Rattle.ls_cells.specs.Rows.{signs_of}
 use Rattle.ls_cells.specs.Cells.{signs_at, HasObject, AreRowsOf, AddsRows, IsCons, IsNoCons, IsBuilt}
+use Rattle.ls_cells.specs.Codes.{codes_of, HasCodes}
 use Rattle.ls_cells.specs.Kept.{lists, entries_of, AreCellsOf}
 use Rattle.ls_cells.specs.steps.Filling.{MayMake}
-use Rattle.ls_cells.proofs.DescentLemmas.{fit_atoms, built_atoms, learnt_cars, learnt_cdrs, names_learnt, names_are_all}
+use Rattle.ls_cells.proofs.DescentLemmas.{fit_atoms, built_atoms, codes_atoms, learnt_cars, learnt_cdrs, learnt_by, codes_are_all}
 use Rattle.ls_cells.proofs.EntryLemmas.{not_kept, cells_kept}
 
 -- rows of all objects but conses, and then those of the conses, are the rows of all
@@ -127,23 +129,23 @@ or_first true c h e = refl
 or_first false c h e = absurd (cc)
 
 -- nothing is kept for the cars, or for the cdrs, only where there are none
-pub cars_none : (structures : Structures) (known list : List Specifier) (atoms cars cdrs : List ℕ) (memo : List (List ℕ × Cells)) → MayMake structures known list atoms cars cdrs memo → kept_for cars memo ≡ None → is_none (cars_of list) ≡ true
-cars_none structures known list atoms cars cdrs memo m e =
+pub cars_none : (structures : Structures) (known list : List Specifier) (atoms cars cdrs : List ℕ) (codes : List (List ℕ × Code)) (memo : List (List ℕ × Cells)) → MayMake structures known list atoms cars cdrs codes memo → kept_for cars memo ≡ None → is_none (cars_of list) ≡ true
+cars_none structures known list atoms cars cdrs codes memo m e =
     let f = not_kept structures known m.distinct cars memo m.sides.cars_below m.kept.each e in
     or_first (is_none (cars_of list)) _ m.cars_done (subst (λ l. among l (lists (entries_of known memo)) ≡ false) m.sides.cars_are f)
 
-pub cdrs_none : (structures : Structures) (known list : List Specifier) (atoms cars cdrs : List ℕ) (memo : List (List ℕ × Cells)) → MayMake structures known list atoms cars cdrs memo → kept_for cdrs memo ≡ None → is_none (cars_of list) ≡ true
-cdrs_none structures known list atoms cars cdrs memo m e =
+pub cdrs_none : (structures : Structures) (known list : List Specifier) (atoms cars cdrs : List ℕ) (codes : List (List ℕ × Code)) (memo : List (List ℕ × Cells)) → MayMake structures known list atoms cars cdrs codes memo → kept_for cdrs memo ≡ None → is_none (cars_of list) ≡ true
+cdrs_none structures known list atoms cars cdrs codes memo m e =
     let f = not_kept structures known m.distinct cdrs memo m.sides.cdrs_below m.kept.each e in
     no_cars list (or_first (is_none (cdrs_of list)) _ m.cdrs_done (subst (λ l. among l (lists (entries_of known memo)) ≡ false) m.sides.cdrs_are f))
 
 -- what is kept for them are their cells
-pub cars_cells : (structures : Structures) (known list : List Specifier) (atoms cars cdrs : List ℕ) (memo : List (List ℕ × Cells)) (cells : Cells) → MayMake structures known list atoms cars cdrs memo → kept_for cars memo ≡ Some cells → AreCellsOf structures known (cars_of list) cells
-cars_cells structures known list atoms cars cdrs memo cells m e =
+pub cars_cells : (structures : Structures) (known list : List Specifier) (atoms cars cdrs : List ℕ) (codes : List (List ℕ × Code)) (memo : List (List ℕ × Cells)) (cells : Cells) → MayMake structures known list atoms cars cdrs codes memo → kept_for cars memo ≡ Some cells → AreCellsOf structures known (cars_of list) cells
+cars_cells structures known list atoms cars cdrs codes memo cells m e =
     subst (λ l. AreCellsOf structures known l cells) m.sides.cars_are (cells_kept structures known cars memo cells m.kept.each e)
 
-pub cdrs_cells : (structures : Structures) (known list : List Specifier) (atoms cars cdrs : List ℕ) (memo : List (List ℕ × Cells)) (cells : Cells) → MayMake structures known list atoms cars cdrs memo → kept_for cdrs memo ≡ Some cells → AreCellsOf structures known (cdrs_of list) cells
-cdrs_cells structures known list atoms cars cdrs memo cells m e =
+pub cdrs_cells : (structures : Structures) (known list : List Specifier) (atoms cars cdrs : List ℕ) (codes : List (List ℕ × Code)) (memo : List (List ℕ × Cells)) (cells : Cells) → MayMake structures known list atoms cars cdrs codes memo → kept_for cdrs memo ≡ Some cells → AreCellsOf structures known (cdrs_of list) cells
+cdrs_cells structures known list atoms cars cdrs codes memo cells m e =
     subst (λ l. AreCellsOf structures known l cells) m.sides.cdrs_are (cells_kept structures known cdrs memo cells m.kept.each e)
 
 -- the pairs of rows are no more than the list may have
@@ -151,12 +153,12 @@ pub cells_most : (structures : Structures) (known list : List Specifier) (one tw
 cells_most structures known list one two first second = pairs_most list _ _ first.right.few second.right.few
 
 -- the rows of the conses of a list, from cells of its cars and cells of its cdrs
-pub adds_pairs : (structures : Structures) (learnt : Learnt) (known list : List Specifier) (atoms cars cdrs : List ℕ) (memo : List (List ℕ × Cells)) (one two : Cells) (old new : List Row) → MayMake structures known list atoms cars cdrs memo
+pub adds_pairs : (structures : Structures) (learnt : Learnt) (known list : List Specifier) (atoms cars cdrs : List ℕ) (codes : List (List ℕ × Code)) (memo : List (List ℕ × Cells)) (one two : Cells) (old new : List Row) → MayMake structures known list atoms cars cdrs codes memo
     → AreCellsOf structures known (cars_of list) one → AreCellsOf structures known (cdrs_of list) two → All (IsLearnt structures learnt) (atoms_of list)
     → (specifiers_at known atoms ≡ atoms_of list → All IsBuilt (atoms_of list) → specifiers_at known one.atoms ≡ atoms_of (cars_of list) → specifiers_at known two.atoms ≡ atoms_of (cdrs_of list)
     → AreRowsOf structures learnt (atoms_of (cars_of list)) one.rows → AreRowsOf structures learnt (atoms_of (cdrs_of list)) two.rows → AddsRows structures learnt (atoms_of list) IsCons old new)
     → AddsRows structures learnt (atoms_of list) IsCons old new
-adds_pairs structures learnt known list atoms cars cdrs memo one two old new m first second l f =
+adds_pairs structures learnt known list atoms cars cdrs codes memo one two old new m first second l f =
     f m.sides.atoms_are (built_atoms list m.built) first.atoms_are second.atoms_are (first.right.are learnt (learnt_cars structures learnt list l)) (second.right.are learnt (learnt_cdrs structures learnt list l))
 
 unmapped : (P : Specifier → Type 0) (specs : List Spec) → AllByRecursion P (map specifier specs) → AllByRecursion (λ x. P (specifier x)) specs
@@ -164,18 +166,22 @@ unmapped P [] h = tt
 unmapped P (x ∷ specs) h = (h.0, unmapped P specs h.1)
 
 -- the atoms as they are handed on
-pub atoms_fit : (structures : Structures) (known list : List Specifier) (atoms cars cdrs : List ℕ) (memo : List (List ℕ × Cells)) (specs : List Spec) → MayMake structures known list atoms cars cdrs memo → map specifier specs ≡ specifiers_at known atoms → AllByRecursion (IsFitIn structures) specs
-atoms_fit structures known list atoms cars cdrs memo specs m e =
+pub atoms_fit : (structures : Structures) (known list : List Specifier) (atoms cars cdrs : List ℕ) (codes : List (List ℕ × Code)) (memo : List (List ℕ × Cells)) (specs : List Spec) → MayMake structures known list atoms cars cdrs codes memo → map specifier specs ≡ specifiers_at known atoms → AllByRecursion (IsFitIn structures) specs
+atoms_fit structures known list atoms cars cdrs codes memo specs m e =
     unmapped (IsFitAtomOf structures) specs (subst (AllByRecursion (IsFitAtomOf structures)) (sym (e ∙ m.sides.atoms_are)) (fit_atoms structures list m.fit))
 
-pub atoms_built : (structures : Structures) (known list : List Specifier) (atoms cars cdrs : List ℕ) (memo : List (List ℕ × Cells)) → MayMake structures known list atoms cars cdrs memo → All IsBuilt (specifiers_at known atoms)
-atoms_built structures known list atoms cars cdrs memo m = subst (All IsBuilt) (sym m.sides.atoms_are) (built_atoms list m.built)
+pub atoms_built : (structures : Structures) (known list : List Specifier) (atoms cars cdrs : List ℕ) (codes : List (List ℕ × Code)) (memo : List (List ℕ × Cells)) → MayMake structures known list atoms cars cdrs codes memo → All IsBuilt (specifiers_at known atoms)
+atoms_built structures known list atoms cars cdrs codes memo m = subst (All IsBuilt) (sym m.sides.atoms_are) (built_atoms list m.built)
+
+pub atoms_coded : (structures : Structures) (known list : List Specifier) (atoms cars cdrs : List ℕ) (codes : List (List ℕ × Code)) (memo : List (List ℕ × Cells)) → MayMake structures known list atoms cars cdrs codes memo → All (HasCodes (codes_of known codes)) (specifiers_at known atoms)
+atoms_coded structures known list atoms cars cdrs codes memo m = subst (All (HasCodes (codes_of known codes))) (sym m.sides.atoms_are) (codes_atoms (codes_of known codes) list m.learnt)
 
 -- right rows of a list that is built are as wide as its atoms
-pub made_wide : (structures : Structures) (known list : List Specifier) (atoms cars cdrs : List ℕ) (memo : List (List ℕ × Cells)) (found : List Row) → MayMake structures known list atoms cars cdrs memo
+pub made_wide : (structures : Structures) (known list : List Specifier) (atoms cars cdrs : List ℕ) (codes : List (List ℕ × Code)) (memo : List (List ℕ × Cells)) (found : List Row) → MayMake structures known list atoms cars cdrs codes memo
     → ((learnt : Learnt) → All (IsLearnt structures learnt) (atoms_of list) → AreRowsOf structures learnt (atoms_of list) found) → All (λ r. length r.signs ≡ length (atoms_of list)) found
-made_wide structures known list atoms cars cdrs memo found m f =
-    rows_wide structures (names_learnt structures) (atoms_of list) found (f (names_learnt structures) (names_are_all structures (atoms_of list) m.kept.order (built_atoms list m.built)))
+made_wide structures known list atoms cars cdrs codes memo found m f =
+    let learnt = learnt_by structures (codes_of known codes) in
+    rows_wide structures learnt (atoms_of list) found (f learnt (codes_are_all structures (codes_of known codes) (atoms_of list) m.right.right m.kept.order (codes_atoms (codes_of known codes) list m.learnt) (built_atoms list m.built)))
 
 -- the steps of the flat objects, and those of the conses behind them
 pub flat_most : (known list : List Specifier) (atoms : List ℕ) (specs : List Spec) (s0 s1 : ℕ) → specifiers_at known atoms ≡ atoms_of list → map specifier specs ≡ specifiers_at known atoms → s1 ≤ s0 + candidates_of_atoms (map specifier specs) → s1 ≤ s0 + candidates list
@@ -188,11 +194,11 @@ flat_rows structures learnt known list atoms specs old new e f l g =
     subst (λ x. AddsRows structures learnt x IsNoCons old new) (f ∙ e) (g (subst (All (IsLearnt structures learnt)) (sym (f ∙ e)) l))
 
 -- how many atoms there are
-pub atoms_count : (structures : Structures) (known list : List Specifier) (atoms cars cdrs shown : List ℕ) (memo : List (List ℕ × Cells)) (n : ℕ) → MayMake structures known list atoms cars cdrs memo → shown ≡ atoms → n ≡ length shown → length (atoms_of list) ≡ n
-atoms_count structures known list atoms cars cdrs shown memo n m e f =
+pub atoms_count : (structures : Structures) (known list : List Specifier) (atoms cars cdrs shown : List ℕ) (codes : List (List ℕ × Code)) (memo : List (List ℕ × Cells)) (n : ℕ) → MayMake structures known list atoms cars cdrs codes memo → shown ≡ atoms → n ≡ length shown → length (atoms_of list) ≡ n
+atoms_count structures known list atoms cars cdrs shown codes memo n m e f =
     ap length (sym m.sides.atoms_are) ∙ length-map atoms (at known) ∙ ap length (sym e) ∙ sym f
 
 -- the pairs of rows that are kept for the cars and for the cdrs
-pub pairs_within : (structures : Structures) (known list : List Specifier) (atoms cars cdrs : List ℕ) (memo : List (List ℕ × Cells)) (one two : Cells) → MayMake structures known list atoms cars cdrs memo → kept_for cars memo ≡ Some one → kept_for cdrs memo ≡ Some two → length one.rows * length two.rows ≤ rows (cars_of list) * rows (cdrs_of list)
-pairs_within structures known list atoms cars cdrs memo one two m e f =
-    cells_most structures known list one two (cars_cells structures known list atoms cars cdrs memo one m e) (cdrs_cells structures known list atoms cars cdrs memo two m f)
+pub pairs_within : (structures : Structures) (known list : List Specifier) (atoms cars cdrs : List ℕ) (codes : List (List ℕ × Code)) (memo : List (List ℕ × Cells)) (one two : Cells) → MayMake structures known list atoms cars cdrs codes memo → kept_for cars memo ≡ Some one → kept_for cdrs memo ≡ Some two → length one.rows * length two.rows ≤ rows (cars_of list) * rows (cdrs_of list)
+pairs_within structures known list atoms cars cdrs codes memo one two m e f =
+    cells_most structures known list one two (cars_cells structures known list atoms cars cdrs codes memo one m e) (cdrs_cells structures known list atoms cars cdrs codes memo two m f)

@@ -1,11 +1,11 @@
 -- Without predicates marks change no truth value: an object has those of its plain form.
-use Rattle.std.proofs.Common.{◌≡◌, ◌∙◌, refl, ap, sym, Bool, false, not, ◌&&◌, ◌||◌, List, [], ◌∷◌}
+use Rattle.std.proofs.Common.{◌≡◌, ◌∙◌, refl, ap, sym, Bool, true, false, not, ◌&&◌, ◌||◌, ◌==◌, List, [], ◌∷◌}
 use Rattle.std.specs.List.{AllByRecursion}
 use Rattle.ls_object.specs.Universe.{LispObject, node, LispShape, number, character, symbol, pair, array, structure, opaque, plain, plain_shape}
 use Rattle.ls_spec.specs.declared.spec.Point.{Point}
 use Rattle.ls_spec.specs.declared.spec.Point.TheVariants as point
 use Rattle.ls_spec.specs.Specifier.{Specifier, all_objects, no_objects, and_of, or_of, not_of, eql_to, range_of, chars_of, symbols_of, kind_of, structure_under, any_structure, array_any, array_of, string_of, cons_of, satisfies, Specifiers, no_more, also}
-use Rattle.ls_spec.specs.Truth.{is_point, is_in_range, is_char_in, is_symbol_in, is_of_kind, is_structure_under, is_any_structure, Learnt, holds, all_hold, some_holds}
+use Rattle.ls_spec.specs.Truth.{is_point, is_in_range, is_char_in, is_symbol_in, is_of_kind, is_structure_under, is_any_structure, is_array_with, is_string_code, matches_places, matches_dimensions, Learnt, holds, all_hold, some_holds}
 use Rattle.ls_cells.specs.Cells.{signs_at, IsBuilt, AreBuilt}
 
 -- what no cons has is the same of a shape and of its plain form
@@ -45,9 +45,9 @@ mutual
   holds-plain learnt (kind_of k) (node marks shape) h = same-plain (is_of_kind k) (λ x y. refl) shape
   holds-plain learnt (structure_under y) (node marks shape) h = same-plain (is_structure_under learnt.under y) (λ a b. refl) shape
   holds-plain learnt any_structure (node marks shape) h = same-plain is_any_structure (λ x y. refl) shape
-  holds-plain learnt (array_any simple dims) o h = absurd h
-  holds-plain learnt (array_of e simple dims) o h = absurd h
-  holds-plain learnt (string_of simple dim) o h = absurd h
+  holds-plain learnt (array_any simple dims) (node marks shape) h = same-plain (is_array_with (λ c. true) simple (matches_dimensions dims)) (λ x y. refl) shape
+  holds-plain learnt (array_of e simple dims) (node marks shape) h = same-plain (is_array_with (λ c. c == learnt.code_of e) simple (matches_dimensions dims)) (λ x y. refl) shape
+  holds-plain learnt (string_of simple dim) (node marks shape) h = same-plain (is_array_with is_string_code simple (matches_places (dim ∷ []))) (λ x y. refl) shape
   holds-plain learnt (cons_of a b) (node marks (pair x y)) h =
       both-same (holds learnt a (plain x)) (holds learnt b (plain y)) (holds learnt a x) (holds learnt b y) (holds-plain learnt a x h.0) (holds-plain learnt b y h.1)
   holds-plain learnt (cons_of a b) (node marks (number n d)) h = refl

@@ -1,14 +1,9 @@
 -- What it comes to where the truth values that were to be added have a row already.
-use Rattle.std.proofs.Common.{ℕ, ◌≡◌, ◌∙◌, sym, ap, subst, Bool, List, [], ◌∷◌, append-nil, ◌&&◌, nat_lt, nat_le, true, map, length, All}
+use Rattle.std.proofs.Common.{ℕ, ◌≡◌, ◌∙◌, sym, ap, subst, Bool, List, [], ◌∷◌, append-nil, ◌&&◌, nat_lt, nat_le, true, length, All}
 use Rattle.std.specs.Prelude.{Some, Contains, slice_get}
-use Rattle.std.specs.List.{AllByRecursion}
-use Rattle.std.proofs.lemmas.List.Elements.{recursion_from_All}
 use Rattle.std.proofs.lemmas.Option.{slice_get_within, get_or_from_slice_get}
 use Rattle.ls_object.specs.Universe.{LispObject, node, pair, Structures, IsObject}
-use Rattle.ls_spec.specs.declared.spec.Spec.{Spec}
 use Rattle.ls_spec.specs.Atoms.{atoms_of}
-use Rattle.ls_spec.specs.Fits.{IsAtom}
-use Rattle.ls_spec.specs.Meaning.{specifier}
 use Rattle.ls_spec.specs.Specifier.{Specifier}
 use Rattle.ls_spec.specs.Truth.{Learnt}
 use Rattle.ls_lists.specs.Sides.{cars_of}
@@ -17,9 +12,7 @@ use Rattle.ls_cells.specs.declared.rows.Row.{Row}
 use Rattle.ls_cells.specs.Rows.{signs_of}
 use Rattle.ls_cells.specs.Cells.{signs_at, AddsRows, IsBuilt, IsCons}
 use Rattle.ls_cells.specs.Signs.{tabulate}
-use Rattle.ls_cells.specs.steps.Classes.{IsArray}
 use Rattle.ls_cells.specs.steps.Pairing.{joined, Crosses}
-use Rattle.ls_cells.proofs.ArrayLemmas.{signs_of_array}
 use Rattle.ls_cells.proofs.ConsLemmas.{one_by_one, no_cons_signs}
 use Rattle.ls_cells.proofs.CrossLemmas.{in_one}
 
@@ -47,14 +40,6 @@ crosses_there car cdr rows signs i both there = record {
   all = λ a b h k.
       subst (Contains (signs_of rows)) (both ∙ ap (λ r. joined r.signs cdr.signs) (sym (in_one car a h)) ∙ ap (λ r. joined a.signs r.signs) (sym (in_one cdr b k))) (has_at (signs_of rows) i signs there);
 }
-
--- nor for the arrays
-pub array_there : (structures : Structures) (learnt : Learnt) (atoms : List Spec) (rows : List Row) (signs : List Bool) (i n : ℕ) → slice_get (signs_of rows) i ≡ Some signs
-    → AllByRecursion (λ a. IsAtom (specifier a)) atoms → All IsBuilt (map specifier atoms) → n ≡ length atoms → signs ≡ tabulate n (λ i. nat_le 0 i && nat_lt i 0)
-    → AddsRows structures learnt (map specifier atoms) IsArray rows rows
-array_there structures learnt atoms rows signs i n there a built count is =
-    adds_none structures learnt (map specifier atoms) IsArray rows signs i there (λ o _ h.
-    is ∙ ap (λ (k : ℕ). tabulate k (λ i. nat_le 0 i && nat_lt i 0)) count ∙ signs_of_array learnt atoms o a (recursion_from_All IsBuilt (map specifier atoms) built) h)
 
 -- nor for conses, where no atom is a CONS
 pub cons_there : (structures : Structures) (learnt : Learnt) (list : List Specifier) (count : ℕ) (rows : List Row) (signs : List Bool) (i : ℕ) → slice_get (signs_of rows) i ≡ Some signs

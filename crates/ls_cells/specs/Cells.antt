@@ -1,7 +1,7 @@
 -- The rows of a list of atoms: which truth values an object can have in them, each with an object that has them.
 use Rattle.std.specs.Prelude.{◌≡◌, Bool, List, map, All, Contains}
 use Rattle.ls_object.specs.Universe.{LispObject, node, pair, Structures, IsObject, plain}
-use Rattle.ls_spec.specs.Specifier.{Specifier, and_of, or_of, not_of, array_any, array_of, string_of, cons_of, satisfies, Specifiers, no_more, also}
+use Rattle.ls_spec.specs.Specifier.{Specifier, and_of, or_of, not_of, array_of, cons_of, satisfies, Specifiers, no_more, also}
 use Rattle.ls_spec.specs.Truth.{Learnt, holds}
 use Rattle.ls_cells.specs.declared.rows.Row.{Row}
 use Rattle.ls_cells.specs.Rows.{origin_object, signs_of}
@@ -40,15 +40,13 @@ abbrev pub IsNoCons : LispObject → Type 0
 IsNoCons (node marks (pair car cdr)) = ⊥
 IsNoCons _ = Unit {0}
 
--- without arrays, strings and predicates
+-- without predicates, also in element types
 abbrev mutual
   pub IsBuilt : Specifier → Type 0
   IsBuilt (and_of ss) = AreBuilt ss
   IsBuilt (or_of ss) = AreBuilt ss
   IsBuilt (not_of s) = IsBuilt s
-  IsBuilt (array_any simple dims) = ⊥
-  IsBuilt (array_of e simple dims) = ⊥
-  IsBuilt (string_of simple dim) = ⊥
+  IsBuilt (array_of e simple dims) = IsBuilt e
   IsBuilt (cons_of a b) = IsBuilt a × IsBuilt b
   IsBuilt (satisfies p) = ⊥
   IsBuilt _ = Unit {0}

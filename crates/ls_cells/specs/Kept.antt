@@ -1,6 +1,7 @@
 -- What a store keeps: for each of some lists of specifiers its rows.
 use Rattle.std.specs.Prelude.{ℕ, min, ◌≡◌, ◌≤◌, ◌+◌, ◌-◌, ◌^◌, List, [], ◌∷◌, ◌++◌, map, length, All}
 use Rattle.std.specs.List.{sum_by}
+use Rattle.ls_object.specs.declared.table.Code.{Code}
 use Rattle.ls_object.specs.Universe.{Structures}
 use Rattle.ls_object.specs.Inclusion.{IsInclusionOrder}
 use Rattle.ls_spec.specs.Specifier.{Specifier}
@@ -11,6 +12,7 @@ use Rattle.ls_intern.specs.Places.{specifiers_at, AllBelow}
 use Rattle.ls_cells.specs.declared.rows.Row.{Row}
 use Rattle.ls_cells.specs.declared.cells.Cells.{Cells}
 use Rattle.ls_cells.specs.Cells.{AreRowsOf}
+use Rattle.ls_cells.specs.Codes.{Codes, AreCodes}
 
 -- lists of specifiers with their rows, in the order in which they were made
 abbrev pub Entries : Type 0
@@ -24,9 +26,10 @@ lists entries = map (λ e. e.0) entries
 abbrev pub count_rows : Entries → ℕ
 count_rows entries = sum_by (λ e. length e.1) entries
 
--- What a contract sees of a store: the structure types, the specifiers of its table, and what it keeps.
+-- What a contract sees of a store: the structure types, the specifiers of its table, the codes that it has learnt, and
+-- what it keeps.
 abbrev pub Stored : Type 0
-Stored = Structures × (List Specifier × Entries)
+Stored = Structures × (List Specifier × (Codes × Entries))
 
 abbrev pub structures_in : Stored → Structures
 structures_in stored = stored.0
@@ -34,8 +37,11 @@ structures_in stored = stored.0
 abbrev pub specifiers_in : Stored → List Specifier
 specifiers_in stored = stored.1.0
 
+abbrev pub codes_in : Stored → Codes
+codes_in stored = stored.1.1.0
+
 abbrev pub entries_in : Stored → Entries
-entries_in stored = stored.1.1
+entries_in stored = stored.1.1.1
 
 -- rows are right for a list, where what was learnt of its atoms is right, and are no more than it may have
 pub record AreRightFor (structures : Structures) (list : List Specifier) (found : List Row) : Type 0 where
@@ -82,8 +88,9 @@ pub record AreKept (structures : Structures) (known : List Specifier) (memo : Li
 abbrev pub AreCounted : List Specifier → List (List ℕ × Cells) → ℕ → Type 0
 AreCounted known memo count = count ≡ min (count_rows (entries_of known memo)) (2 ^ 64 - 1)
 
--- a store keeps right cells, and counts their rows
-pub record IsStore (structures : Structures) (known : List Specifier) (memo : List (List ℕ × Cells)) (count : ℕ)
-    : Type 0 where
+-- a store has learnt right codes, keeps right cells, and counts their rows
+pub record IsStore (structures : Structures) (known : List Specifier) (codes : List (List ℕ × Code))
+    (memo : List (List ℕ × Cells)) (count : ℕ) : Type 0 where
+  pub upgraded : AreCodes structures known codes
   pub kept : AreKept structures known memo
   pub counted : AreCounted known memo count

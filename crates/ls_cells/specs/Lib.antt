@@ -1,4 +1,5 @@
 pub mod Cells
+pub mod Codes
 pub mod Columns
 pub mod Formulas
 pub mod Kept

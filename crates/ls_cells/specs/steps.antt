@@ -2,6 +2,7 @@
 -- rests on these definitions.
 pub mod Turning
 pub mod Words
+pub mod Asking
 pub mod Classes
 pub mod Idle
 pub mod Halves

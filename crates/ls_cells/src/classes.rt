@@ -1,30 +1,31 @@
 // The rows of all objects but conses.
 
-ghost use Rattle.std.specs.Prelude.{ℕ, ◌≡◌, ◌≤◌, ◌+◌, ◌<◌, ◌↔◌, [], true, map, length, All, IfOk, OnOk};
+ghost use Rattle.std.specs.Prelude.{ℕ, ◌≡◌, ◌≤◌, ◌+◌, ◌<◌, ◌↔◌, map, length, All, IfOk, OnOk};
 ghost use Rattle.std.specs.List.{AllByRecursion};
-ghost use Rattle.ls_object.specs.Universe.{LispObject, node, array, Structures, IsObject, IsPlain, plain};
-ghost use Rattle.ls_object.specs.declared.table.TheConstants.{T_PLACE};
+ghost use Rattle.ls_object.specs.Universe.{LispObject, Structures, IsObject, IsPlain, plain};
 ghost use Rattle.ls_object.specs.Meaning.{lisp_object};
 ghost use Rattle.ls_spec.specs.declared.spec.Spec.{Spec};
 ghost use Rattle.ls_spec.specs.Meaning.{specifier};
 ghost use Rattle.ls_spec.specs.Membership.{Belongs};
-ghost use Rattle.ls_spec.specs.Fits.{IsAtom};
 ghost use Rattle.ls_spec.specs.Truth.{Learnt, IsLearnt};
 ghost use Rattle.ls_points.specs.Members as members;
 ghost use Rattle.ls_lists.specs.Candidates.{candidates_of_atoms};
 ghost use Rattle.ls_cells.specs.Cells.{signs_at, AddsRows, IsNoCons, IsBuilt};
 ghost use Rattle.ls_cells.specs.Rows.{AreLong};
-ghost use Rattle.ls_cells.specs.steps.Classes.{IsItself, IsArray};
+ghost use Rattle.ls_cells.specs.steps.Asking.{AreAskedBy};
+ghost use Rattle.ls_cells.specs.steps.Classes.{IsItself};
 ghost use Rattle.ls_cells.specs.steps.Idle.{IsOf};
 ghost use Rattle.ls_cells.specs.steps.Index.{IsIndexOf};
 
+use crate::arrays::push_arrays;
 use crate::idle::{Class, is_idle, push_idle};
 use crate::index::Index;
 use crate::origin::Origin;
 use crate::rows::{Row, Rows};
 use crate::signs::Signs;
+use ls_arrays::ArrayAtom;
 use ls_memo::Steps;
-use ls_object::{Code, Dims, Items, Object, Shape};
+use ls_object::{Items, Object};
 use ls_points::{CharRegions, NumberRegions, OpaqueRegions, StructRegions, SymbolRegions};
 use ls_spec::{Regions, Spec};
 use std::alloc::{AllocError, Global};
@@ -150,55 +151,18 @@ fn push_class<R: Regions<Atom = Spec>, L: Ledger>(
     push_reps(alloc, regions, atoms, index, rows, steps)
 }
 
-/// The simple array of rank 0 that can hold every object.
-fn some_array(alloc: Global) -> Object
-    ensures { lisp_object result ≡ node [] (array T_PLACE true []) }
-{
-    Object {
-        marks: Items::new(alloc),
-        shape: Shape::Array {
-            elem: Code::ALL,
-            simple: true,
-            dims: Dims::new(alloc),
-        },
-    }
-}
-
-/// Adds the row of the arrays, which are in no atom. It makes at most one step.
-fn push_array<L: Ledger>(
-    alloc: Global,
-    atoms: &Items<Spec>,
-    rows: &mut Rows,
-    steps: &mut Steps<L>,
-) -> Result<(), AllocError>
-    requires atoms { AllByRecursion (λ a. IsAtom (specifier a)) atoms.now }
-    requires built { All IsBuilt (map specifier atoms.now) }
-    ensures rises { steps.old ≤ steps.new }
-    ensures most { steps.new ≤ steps.old + 1 }
-    ensures fewer { length rows.new + steps.old ≤ length rows.old + steps.new }
-    ensures long { AreLong (length atoms.now) rows.old → AreLong (length atoms.now) rows.new }
-    ensures rows { OnOk result ((structures : Structures) (learnt : Learnt)
-        → AddsRows structures learnt (map specifier atoms.now) IsArray rows.old rows.new) }
-{
-    let signs = Signs::interval(alloc, atoms.len(), 0, 0)?;
-    if let Some(_) = rows.find(&signs) {
-        return Ok(());
-    }
-    let origin = Origin::of_object(alloc, some_array(alloc))?;
-    rows.add(Row { signs, origin }, steps)?;
-    Ok(())
-}
-
 /// Adds the rows of all objects but conses. An error comes for want of memory; the rows are then some of them.
 pub(crate) fn push_flat<L: Ledger>(
     alloc: Global,
     structs: &StructRegions,
     atoms: &Items<Spec>,
+    asked: &Items<ArrayAtom>,
     rows: &mut Rows,
     steps: &mut Steps<L>,
 ) -> Result<(), AllocError>
     requires fit { AllByRecursion (members.IsFitIn structs.now) atoms.now }
     requires built { All IsBuilt (map specifier atoms.now) }
+    requires asked { AreAskedBy structs.now (map specifier atoms.now) asked.now }
     ensures rises { steps.old ≤ steps.new }
     ensures most { steps.new ≤ steps.old + candidates_of_atoms (map specifier atoms.now) }
     ensures fewer { length rows.new + steps.old ≤ length rows.old + steps.new }
@@ -244,6 +208,6 @@ pub(crate) fn push_flat<L: Ledger>(
         steps,
     )?;
     push_class(alloc, Class::Structs, structs, atoms, &index, rows, steps)?;
-    push_array(alloc, atoms, rows, steps)?;
+    push_arrays(alloc, atoms, asked, rows, steps)?;
     Ok(())
 }

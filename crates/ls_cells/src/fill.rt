@@ -6,6 +6,7 @@ ghost use Rattle.ls_lists.specs.Walks.{part, walk};
 ghost use Rattle.ls_intern.specs.Places.{specifiers_at, AllBelow};
 ghost use Rattle.ls_memo.specs.Kept.{kept_for};
 ghost use Rattle.ls_cells.specs.Cells.{IsBuilt};
+ghost use Rattle.ls_cells.specs.Codes.{codes_of, AreCodes, HasCodes};
 ghost use Rattle.ls_cells.specs.Kept.{lists, count_rows, entries_of, AreKept, AreCounted};
 ghost use Rattle.ls_cells.specs.steps.Filling.{MayMake, Makes, Fills};
 
@@ -13,7 +14,7 @@ use crate::cells::Cells;
 use crate::make::make;
 use ls_intern::{Id, Table};
 use ls_memo::{Memo, Steps};
-use ls_object::Items;
+use ls_object::{Code, Items};
 use ls_points::StructRegions;
 use ls_sides::{Sides, sides_of};
 use std::alloc::{AllocError, Global};
@@ -44,12 +45,13 @@ impl Kept {
         alloc: Global,
         structures: &StructRegions,
         table: &Table,
+        codes: &Memo<Code>,
         list: &[Id],
         sides: Sides,
         steps: &mut Steps<L>,
     ) -> Result<(), AllocError>
         requires may { MayMake structures.now table.now (specifiers_at table.now list.now)
-            sides.atoms sides.cars sides.cdrs self.old.memo }
+            sides.atoms sides.cars sides.cdrs codes.now self.old.memo }
         requires counted { AreCounted table.now self.old.memo self.old.rows }
         requires absent { kept_for list.now self.old.memo ≡ None }
         ensures rises { steps.old ≤ steps.new }
@@ -60,7 +62,7 @@ impl Kept {
         ensures rows { count_rows (entries_of table.now self.new.memo) + steps.old
             ≤ count_rows (entries_of table.now self.old.memo) + steps.new }
     {
-        let rows = make(alloc, structures, table, &sides, &self.memo, steps)?;
+        let rows = make(alloc, structures, table, codes, &sides, &self.memo, steps)?;
         // Its contract says that no two rows have the same truth values.
         let count = rows.len();
         let cells = Cells::new(alloc, sides.atoms, rows)?;
@@ -77,12 +79,15 @@ impl Kept {
         alloc: Global,
         structures: &StructRegions,
         table: &Table,
+        codes: &Memo<Code>,
         list: &[Id],
         steps: &mut Steps<L>,
     ) -> Result<(), AllocError>
         requires below { AllBelow (length table.now) list.now }
         requires fit { All (Fits structures.now) (specifiers_at table.now list.now) }
         requires built { All IsBuilt (specifiers_at table.now list.now) }
+        requires codes { AreCodes structures.now table.now codes.now }
+        requires learnt { All (HasCodes (codes_of table.now codes.now)) (specifiers_at table.now list.now) }
         requires kept { AreKept structures.now table.now self.old.memo }
         requires counted { AreCounted table.now self.old.memo self.old.rows }
         ensures fills { Fills structures.now table.now (specifiers_at table.now list.now)
@@ -100,9 +105,23 @@ impl Kept {
         // Its contract says that no specifier stands twice, so nothing is kept for a list that isn't found.
         let _distinct = table.len();
         let sides = sides_of(alloc, table, list)?;
-        self.fill(alloc, structures, table, sides.cars.as_slice(), steps)?;
-        self.fill(alloc, structures, table, sides.cdrs.as_slice(), steps)?;
-        self.put(alloc, structures, table, list, sides, steps)?;
+        self.fill(
+            alloc,
+            structures,
+            table,
+            codes,
+            sides.cars.as_slice(),
+            steps,
+        )?;
+        self.fill(
+            alloc,
+            structures,
+            table,
+            codes,
+            sides.cdrs.as_slice(),
+            steps,
+        )?;
+        self.put(alloc, structures, table, codes, list, sides, steps)?;
         Ok(())
     }
 }

@@ -15,14 +15,13 @@ use crate::origin::Origin;
 use crate::rows::{Row, Rows};
 use crate::signs::Signs;
 use ls_memo::Steps;
-use ls_object::{Items, Kind, Object, Rat, Shape, Symbol};
+use ls_object::{Code, Dims, Items, Kind, Object, Rat, Shape, Symbol};
 use ls_spec::{Point, Spec};
 use std::alloc::{AllocError, Global};
 use std::rc::Rc;
 use std::sync::ledger::Ledger;
 
-/// A class of objects, by their shape. Arrays and conses have none: no atom is asked about at arrays, and a cons has
-/// its row from those of its car and its cdr.
+/// A class of objects, by their shape. Conses have none: a cons has its row from those of its car and its cdr.
 #[derive(Clone, Copy, Debug)]
 pub(crate) enum Class {
     Numbers,
@@ -30,6 +29,7 @@ pub(crate) enum Class {
     Symbols,
     Opaques,
     Structs,
+    Arrays,
 }
 
 /// Whether the two are one class.
@@ -79,10 +79,10 @@ fn may_hold(class: Class, atom: &Spec) -> bool
             simple: _,
             dims: _,
         } => match elem {
-            None => false,
-            Some(_) => false,
+            None => is_same(class, Class::Arrays),
+            Some(_) => is_same(class, Class::Arrays),
         },
-        Spec::StringOf { simple: _, dim: _ } => false,
+        Spec::StringOf { simple: _, dim: _ } => is_same(class, Class::Arrays),
         Spec::ConsOf(_, _) => false,
         Spec::Nothing => false,
         Spec::All => true,
@@ -115,6 +115,11 @@ fn some_shape(alloc: Global, class: Class) -> Result<Shape, AllocError>
         Class::Symbols => Ok(Shape::Sym(Symbol::nil(alloc)?)),
         Class::Opaques => Ok(Shape::Opaque(Kind::SingleFloat)),
         Class::Structs => Ok(Shape::Opaque(Kind::OtherStructure)),
+        Class::Arrays => Ok(Shape::Array {
+            elem: Code::ALL,
+            simple: true,
+            dims: Dims::new(alloc),
+        }),
     }
 }
 

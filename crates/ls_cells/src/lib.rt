@@ -3,6 +3,7 @@
 //! evaluated at all rows of a list at once. A store makes the rows of each list once.
 #![tactic(auto)]
 
+mod arrays;
 mod cells;
 mod classes;
 mod column;

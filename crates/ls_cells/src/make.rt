@@ -1,6 +1,7 @@
 // The making of the rows of one list.
 
-ghost use Rattle.std.specs.Prelude.{◌≡◌, ◌≤◌, ◌+◌, ◌*◌, List, length, map, All, IfOk, OnOk};
+ghost use Rattle.std.specs.Prelude.{◌≡◌, ◌≤◌, ◌+◌, ◌*◌, ℕ, List, length, map, All, IfOk, OnOk};
+ghost use Rattle.ls_object.specs.declared.table.Code.{Code};
 ghost use Rattle.ls_object.specs.Universe.{Structures};
 ghost use Rattle.ls_spec.specs.Specifier.{Specifier};
 ghost use Rattle.ls_spec.specs.Meaning.{specifier};
@@ -13,13 +14,14 @@ ghost use Rattle.ls_intern.specs.Places.{specifiers_at, AllBelow};
 ghost use Rattle.ls_cells.specs.Cells.{IsCons, AreRowsOf, AddsRows};
 ghost use Rattle.ls_cells.specs.steps.Filling.{MayMake};
 
+use crate::arrays::array_atoms;
 use crate::cells::Cells;
 use crate::classes::push_flat;
 use crate::pairs::{push_cons, push_pairs};
 use crate::rows::Rows;
 use ls_intern::{Id, Table};
 use ls_memo::{Memo, Steps};
-use ls_object::Items;
+use ls_object::{Code, Items};
 use ls_points::StructRegions;
 use ls_sides::Sides;
 use ls_spec::Spec;
@@ -50,12 +52,13 @@ fn push_conses<L: Ledger>(
 ) -> Result<(), AllocError>
     requires { AllBelow (length table.now) sides.now.atoms }
     ensures rises { steps.old ≤ steps.new }
-    ensures most { (structures : Structures) (list : List Specifier)
-        → MayMake structures table.now list sides.now.atoms sides.now.cars sides.now.cdrs memo.now
+    ensures most { (structures : Structures) (list : List Specifier) (codes : List (List ℕ × Code))
+        → MayMake structures table.now list sides.now.atoms sides.now.cars sides.now.cdrs codes memo.now
         → steps.new ≤ steps.old + walks.rows (cars_of list) * walks.rows (cdrs_of list) }
     ensures fewer { length rows.new + steps.old ≤ length rows.old + steps.new }
     ensures rows { OnOk result ((structures : Structures) (learnt : Learnt) (list : List Specifier)
-        → MayMake structures table.now list sides.now.atoms sides.now.cars sides.now.cdrs memo.now
+        (codes : List (List ℕ × Code))
+        → MayMake structures table.now list sides.now.atoms sides.now.cars sides.now.cdrs codes memo.now
         → All (IsLearnt structures learnt) (atoms_of list)
         → AddsRows structures learnt (atoms_of list) IsCons rows.old rows.new) }
 {
@@ -77,25 +80,27 @@ pub fn make<L: Ledger>(
     alloc: Global,
     structures: &StructRegions,
     table: &Table,
+    codes: &Memo<Code>,
     sides: &Sides,
     memo: &Memo<Cells>,
     steps: &mut Steps<L>,
 ) -> Result<Rows, AllocError>
     requires { (list : List Specifier)
-        × MayMake structures.now table.now list sides.now.atoms sides.now.cars sides.now.cdrs memo.now }
+        × MayMake structures.now table.now list sides.now.atoms sides.now.cars sides.now.cdrs codes.now memo.now }
     ensures rises { steps.old ≤ steps.new }
     ensures most { (list : List Specifier)
-        → MayMake structures.now table.now list sides.now.atoms sides.now.cars sides.now.cdrs memo.now
+        → MayMake structures.now table.now list sides.now.atoms sides.now.cars sides.now.cdrs codes.now memo.now
         → steps.new ≤ steps.old + (candidates list + walks.rows (cars_of list) * walks.rows (cdrs_of list)) }
     ensures fewer { IfOk result (λ rows. length rows + steps.old ≤ steps.new) }
     ensures rows { IfOk result (λ rows. (learnt : Learnt) (list : List Specifier)
-        → MayMake structures.now table.now list sides.now.atoms sides.now.cars sides.now.cdrs memo.now
+        → MayMake structures.now table.now list sides.now.atoms sides.now.cars sides.now.cdrs codes.now memo.now
         → All (IsLearnt structures.now learnt) (atoms_of list)
         → AreRowsOf structures.now learnt (atoms_of list) rows) }
 {
     let mut rows = Rows::new(alloc);
     let atoms = trees(alloc, table, sides.atoms.as_slice())?;
-    push_flat(alloc, structures, &atoms, &mut rows, steps)?;
+    let asked = array_atoms(alloc, table, codes, sides.atoms.as_slice())?;
+    push_flat(alloc, structures, &atoms, &asked, &mut rows, steps)?;
     push_conses(alloc, table, sides, memo, &mut rows, steps)?;
     Ok(rows)
 }

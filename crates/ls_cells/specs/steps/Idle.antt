@@ -1,9 +1,10 @@
 -- Classes at whose objects no atom of a list can hold, as the variants of the atoms tell.
-use Rattle.std.specs.Prelude.{ℕ, Bool, true, false, not, ◌||◌, ◌==◌, List, pos}
+use Rattle.std.specs.Prelude.{ℕ, Bool, true, false, not, ◌||◌, ◌==◌, List, [], pos}
 use Rattle.std.specs.List.{list_all}
 use Rattle.ls_object.specs.declared.kind.Kind.TheVariants.{SingleFloat, OtherStructure}
+use Rattle.ls_object.specs.declared.table.TheConstants.{T_PLACE}
 use Rattle.ls_object.specs.Symbols.{nil_symbol}
-use Rattle.ls_object.specs.Universe.{LispObject, node, LispShape, number, character, symbol, structure, opaque}
+use Rattle.ls_object.specs.Universe.{LispObject, node, LispShape, number, character, symbol, array, structure, opaque}
 use Rattle.ls_spec.specs.declared.spec.Point.{Point}
 use Rattle.ls_spec.specs.declared.spec.Point.TheVariants as point
 use Rattle.ls_spec.specs.declared.spec.Spec.{Spec}
@@ -11,8 +12,9 @@ use Rattle.ls_spec.specs.Meaning.{specifier}
 use Rattle.ls_spec.specs.Specifier.{Specifier, no_objects, eql_to, range_of, chars_of, symbols_of, kind_of, structure_under, any_structure, array_any, array_of, string_of, cons_of}
 use Rattle.ls_spec.specs.Truth.{same_kind}
 use Rattle.ls_points.specs.Classes.{IsNumber, IsCharacter, IsSymbol, IsOpaque}
+use Rattle.ls_arrays.specs.Arrays.{IsArray}
 use Rattle.ls_cells.specs.declared.idle.Class.{Class}
-use Rattle.ls_cells.specs.declared.idle.Class.TheVariants.{Numbers, Characters, Symbols, Opaques, Structs}
+use Rattle.ls_cells.specs.declared.idle.Class.TheVariants.{Numbers, Characters, Symbols, Opaques, Structs, Arrays}
 
 -- the classes in order
 abbrev pub class_number : Class → ℕ
@@ -21,6 +23,7 @@ class_number Characters = 1
 class_number Symbols = 2
 class_number Opaques = 3
 class_number Structs = 4
+class_number Arrays = 5
 
 abbrev pub same_class : Class → Class → Bool
 same_class a b = class_number a == class_number b
@@ -37,6 +40,7 @@ IsOf Characters o = IsCharacter o
 IsOf Symbols o = IsSymbol o
 IsOf Opaques o = IsOpaque o
 IsOf Structs o = IsSomeStructure o
+IsOf Arrays o = IsArray o
 
 -- one of the class, or for structures, of which there can be none, an opaque object that is in none but theirs
 abbrev pub some_shape : Class → LispShape
@@ -45,6 +49,7 @@ some_shape Characters = character 128
 some_shape Symbols = symbol nil_symbol
 some_shape Opaques = opaque SingleFloat
 some_shape Structs = opaque OtherStructure
+some_shape Arrays = array T_PLACE true []
 
 -- the class of what EQL names
 abbrev pub class_of_point : Point → Class
@@ -62,9 +67,9 @@ may_hold class (symbols_of k) = same_class class Symbols
 may_hold class (kind_of k) = same_class class Opaques || same_kind OtherStructure k
 may_hold class (structure_under y) = same_class class Structs
 may_hold class any_structure = same_class class Opaques || same_class class Structs
-may_hold class (array_any simple dims) = false
-may_hold class (array_of e simple dims) = false
-may_hold class (string_of simple dim) = false
+may_hold class (array_any simple dims) = same_class class Arrays
+may_hold class (array_of e simple dims) = same_class class Arrays
+may_hold class (string_of simple dim) = same_class class Arrays
 may_hold class (cons_of a b) = false
 may_hold class _ = true
 

@@ -40,7 +40,7 @@ returns-clause-most g c =
 
 pub returns-clause-ok : goal.returns-clause-ok
 returns-clause-ok g c =
-    let cells = made_cells c.args.structures.now c.args.table.now (specifiers_at c.args.table.now c.args.list.now) c.args.sides.atoms c.args.sides.cars c.args.sides.cdrs c.args.self.now.memo c.in_ok-rows.rows c.in_ok-cells.cells c.args.steps.now c.make.new.steps c.requires.may (λ learnt l. c.in_ok-rows.ensures.rows learnt (specifiers_at c.args.table.now c.args.list.now) c.requires.may l) c.len-count.ensures.different c.in_ok-rows.ensures.fewer (c.make.ensures.most (specifiers_at c.args.table.now c.args.list.now) c.requires.may) c.in_ok-cells.ensures.atoms c.in_ok-cells.ensures.rows in
+    let cells = made_cells c.args.structures.now c.args.table.now (specifiers_at c.args.table.now c.args.list.now) c.args.sides.atoms c.args.sides.cars c.args.sides.cdrs c.args.codes.now c.args.self.now.memo c.in_ok-rows.rows c.in_ok-cells.cells c.args.steps.now c.make.new.steps c.requires.may (λ learnt l. c.in_ok-rows.ensures.rows learnt (specifiers_at c.args.table.now c.args.list.now) c.requires.may l) c.len-count.ensures.different c.in_ok-rows.ensures.fewer (c.make.ensures.most (specifiers_at c.args.table.now c.args.list.now) c.requires.may) c.in_ok-cells.ensures.atoms c.in_ok-cells.ensures.rows in
     record { made = c.in_ok-cells.cells; put = c.in_ok-put.ensures.ok ∙ ap (λ l. c.args.self.now.memo ++ (l, c.in_ok-cells.cells) ∷ []) c.in_ok-key.ensures; right = cells }
 
 pub returns-clause-counted : goal.returns-clause-counted
