@@ -4,7 +4,7 @@ use Rattle.std.specs.Prelude.{slice_get, slice_index_or}
 use Rattle.std.specs.List.{sum_by, flat_map}
 use Rattle.std.proofs.lemmas.List.Sums.{sum_by-cons, sum_by-append}
 use Rattle.ls_object.specs.declared.table.Entry.{Entry}
-use Rattle.ls_object.specs.declared.table.TheConstants.{UPGRADING_TABLE}
+use Rattle.ls_object.specs.declared.table.TheConstants.{UPGRADING_TABLE, TABLE_LEN}
 use Rattle.ls_spec.specs.Specifier.{Specifier}
 use Rattle.ls_spec.specs.Approximation.{low, high, has_free_predicate}
 use Rattle.ls_spec.specs.Distinct.{distinct}
@@ -63,8 +63,9 @@ some_predicates a b free e f =
 pub pair_cost_is : (a b : Specifier) → pair_cost a b ≡ sum (distinct (a ∷ b ∷ [])) + (sum_by sum (element_lists (a ∷ b ∷ [])) + sum_by sum (predicate_lists a b))
 unfolding pair_cost
 pair_cost_is a b =
-    sum_by-cons sum (distinct (a ∷ b ∷ [])) (element_lists (a ∷ b ∷ []) ++ predicate_lists a b)
-    ∙ ap (λ n. sum (distinct (a ∷ b ∷ [])) + n) (sum_by-append sum (element_lists (a ∷ b ∷ [])) (predicate_lists a b))
+    let whole = sum_by-append sum (element_lists (a ∷ b ∷ [])) (distinct (a ∷ b ∷ []) ∷ predicate_lists a b) in
+    let own = sum_by-cons sum (distinct (a ∷ b ∷ [])) (predicate_lists a b) in
+    omega (arith, whole, own)
 
 pub type_cost_is : (s : Specifier) → type_cost s ≡ sum_by sum (element_lists (s ∷ []))
 unfolding type_cost
@@ -78,7 +79,7 @@ entries_more (e ∷ entries) (suc i) h = ap (λ l. entry_specifier e ∷ l) (ent
 
 -- one more entry was put in behind the others
 pub entry_added : (start old new : List Specifier) (ids items : List ℕ) (i id : ℕ) → Extends start old → Extends old new → AllBelow (length old) ids
-    → specifiers_at old ids ≡ map entry_specifier (take i UPGRADING_TABLE) → id < length new → at new id ≡ code_specifier i → i < 19 → items ≡ ids ++ id ∷ []
+    → specifiers_at old ids ≡ map entry_specifier (take i UPGRADING_TABLE) → id < length new → at new id ≡ code_specifier i → i < TABLE_LEN → items ≡ ids ++ id ∷ []
     → Extends start new × (AllBelow (length new) items × (specifiers_at new items ≡ map entry_specifier (take (i + 1) UPGRADING_TABLE)))
 entry_added start old new ids items i id f g b are within is h e =
     let j : i + 1 ≡ suc i = omega arith in (

@@ -6,5 +6,9 @@ pub mod CountLemmas
 pub mod CostLemmas
 mod BuiltLemmas
 mod RightLemmas
-mod StepLemmas
+mod WorkLemmas
 mod PairLemmas
+mod LearnLemmas
+mod EntryLemmas
+mod TakenLemmas
+mod DecidedLemmas

@@ -39,10 +39,10 @@ sides_elements known _ car cdr e = absurd (none_some e)
 
 -- the element specifier of an array
 pub element_some : (known : List Specifier) (n : ℕ) (x : Node) (e : ℕ) → PartsBelow n x → node_element x ≡ Some e
-    → (e < n) × ((element_of (node_specifier known x) ≡ at known e ∷ []) × (elements_in (node_specifier known x) ≡ at known e ∷ elements_in (at known e)))
+    → (e < n) × ((element_of (node_specifier known x) ≡ at known e ∷ []) × (elements_in (node_specifier known x) ≡ elements_in (at known e) ++ at known e ∷ []))
 element_some known n (node.ArrayOf (Some i) simple dims) e h f =
     let g : i ≡ e = cc in
-    (subst (λ j. j < n) g h, (ap (λ j. at known j ∷ []) g, ap (λ j. at known j ∷ elements_in (at known j)) g))
+    (subst (λ j. j < n) g h, (ap (λ j. at known j ∷ []) g, ap (λ j. elements_in (at known j) ++ at known j ∷ []) g))
 element_some known n (node.ArrayOf None simple dims) e h f = absurd (none_some f)
 element_some known n _ e h f = absurd (none_some f)
 

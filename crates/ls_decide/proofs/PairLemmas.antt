@@ -17,7 +17,8 @@ use Rattle.ls_intern.specs.Places.{at, specifiers_at}
 use Rattle.ls_cells.specs.declared.cells.Cells.{Cells}
 use Rattle.ls_cells.specs.Cells.{IsBuilt, AreRowsOf}
 use Rattle.ls_cells.specs.Kept.{AreCellsOf}
-use Rattle.ls_cells.proofs.DescentLemmas.{built_atoms, names_learnt, names_are_all}
+use Rattle.ls_cells.specs.Codes.{Codes, AreUpgraded, HasCodes}
+use Rattle.ls_cells.proofs.DescentLemmas.{built_atoms, codes_atoms, learnt_by, codes_are_all}
 use Rattle.ls_decide.specs.declared.answer.Answer.{Answer}
 use Rattle.ls_decide.specs.declared.answer.Answer.TheVariants.{Yes, No, Unsure, TooLarge}
 use Rattle.ls_decide.specs.Answers.{IsRight}
@@ -27,7 +28,8 @@ use Rattle.ls_decide.specs.steps.Comparing.{IsOver, IsRightWithin}
 there : {X : Type 0} (x y : X) (xs : List X) → Contains xs x → Contains (y ∷ xs) x
 there x y xs c = (suc c.0, omega (arith, c.1), c.2)
 
-each_itself : (xs : List Specifier) → AllByRecursion (Contains xs) xs
+-- each of a list is in it
+pub each_itself : (xs : List Specifier) → AllByRecursion (Contains xs) xs
 each_itself [] = tt
 each_itself (x ∷ xs) = ((0, omega arith, refl), AllByRecursion-weaker (Contains xs) (Contains (x ∷ xs)) (λ y c. there y x xs c) xs (each_itself xs))
 
@@ -41,6 +43,25 @@ by_specifier P (s ∷ list) h = (
   AllByRecursion-front P (leaves s) (leaves_of_all (specifiers_of list)) h,
   by_specifier P list (AllByRecursion-back P (leaves s) (leaves_of_all (specifiers_of list)) h),
 )
+
+-- each specifier of a list is made of the atoms of its distinct ones
+pub over_all : (xs atoms : List Specifier) → atoms ≡ atoms_of (distinct xs) → AllByRecursion (IsOver atoms) xs
+over_all xs atoms e =
+    subst (λ (l : List Specifier). AllByRecursion (IsOver l) xs) (sym e)
+    (all_from_distinct (IsOver (atoms_of (distinct xs))) xs (by_specifier (Contains (atoms_of (distinct xs))) (distinct xs) (leaves_among (distinct xs))))
+
+-- what the codes of a store tell of a specifier
+pub is_learnt : (structures : Structures) (codes : Codes) (s : Specifier) → AreUpgraded structures codes → IsInclusionOrder structures → HasCodes codes s → IsBuilt s
+    → IsLearnt structures (learnt_by structures codes) s
+is_learnt structures codes s upgraded order coded built =
+    codes_are_all structures codes (s ∷ []) upgraded order (All-from_recursion (HasCodes codes) (s ∷ []) (coded, tt)) (All-from_recursion IsBuilt (s ∷ []) (built, tt)) 0 s (omega arith)
+
+-- and of the rows that are kept for a list
+pub rows_learnt : (structures : Structures) (codes : Codes) (known list : List Specifier) → AreUpgraded structures codes → IsInclusionOrder structures → All (HasCodes codes) list → All IsBuilt list
+    → (cells : Cells) → AreCellsOf structures known list cells → AreRowsOf structures (learnt_by structures codes) (specifiers_at known cells.atoms) cells.rows
+rows_learnt structures codes known list upgraded order coded built cells are =
+    subst (λ ls. AreRowsOf structures (learnt_by structures codes) ls cells.rows) (sym are.atoms_are)
+    (are.right.are (learnt_by structures codes) (codes_are_all structures codes (atoms_of list) upgraded order (codes_atoms codes list coded) (built_atoms list built)))
 
 pair_by : (a b : Specifier) (x : Bool) → [] ≡ (if x then a ∷ [] else (a ∷ []) ++ b ∷ []) → ⊥
 pair_by a b true e = cc
@@ -70,23 +91,17 @@ module _ (known : List Specifier) (ids : List ℕ) (a b : Specifier) (pair : spe
   -- both are made of atoms of the list
   pub pair_over : (atoms : List Specifier) → atoms ≡ atoms_of (specifiers_at known ids) → IsOver atoms a × IsOver atoms b
   pair_over atoms e =
-      let is : atoms ≡ atoms_of (pair_list a b) = e ∙ ap atoms_of pair in
-      let each = by_specifier (Contains (atoms_of (pair_list a b))) (pair_list a b) (leaves_among (pair_list a b)) in
-      let both = all_from_distinct (λ s. AllByRecursion (Contains (atoms_of (pair_list a b))) (leaves s)) (a ∷ b ∷ []) each in
-      (subst (λ ls. IsOver ls a) (sym is) both.0, subst (λ ls. IsOver ls b) (sym is) both.1.0)
+      let both = over_all (a ∷ b ∷ []) atoms (e ∙ ap atoms_of pair) in
+      (both.0, both.1.0)
 
   -- what is right where all is learnt is right
-  pub pair_right : (structures : Structures) → IsInclusionOrder structures → IsBuilt a → IsBuilt b → (cells : Cells) → AreCellsOf structures known (specifiers_at known ids) cells
-      → (answer : Answer)
+  pub pair_right : (structures : Structures) (codes : Codes) → AreUpgraded structures codes → IsInclusionOrder structures → IsBuilt a → IsBuilt b → HasCodes codes a → HasCodes codes b
+      → (cells : Cells) → AreCellsOf structures known (specifiers_at known ids) cells → (answer : Answer)
       → ((s : Structures) (learnt : Learnt) → IsLearnt s learnt a → IsLearnt s learnt b → AreRowsOf s learnt (specifiers_at known cells.atoms) cells.rows → IsRightWithin s a b answer)
       → IsRightWithin structures a b answer
-  pair_right structures order a_built b_built cells are answer h =
-      let learnt = names_learnt structures in
-      let one = names_are_all structures (a ∷ []) order (All-from_recursion IsBuilt (a ∷ []) (a_built, tt)) in
-      let other = names_are_all structures (b ∷ []) order (All-from_recursion IsBuilt (b ∷ []) (b_built, tt)) in
-      let atoms = names_are_all structures (atoms_of (specifiers_at known ids)) order (built_atoms (specifiers_at known ids) (pair_all IsBuilt a_built b_built)) in
-      h structures learnt (one 0 a (omega arith)) (other 0 b (omega arith))
-      (subst (λ ls. AreRowsOf structures learnt ls cells.rows) (sym are.atoms_are) (are.right.are learnt atoms))
+  pair_right structures codes upgraded order a_built b_built a_coded b_coded cells are answer h =
+      h structures (learnt_by structures codes) (is_learnt structures codes a upgraded order a_coded a_built) (is_learnt structures codes b upgraded order b_coded b_built)
+      (rows_learnt structures codes known (specifiers_at known ids) upgraded order (pair_all (HasCodes codes) a_coded b_coded) (pair_all IsBuilt a_built b_built) cells are)
 
 -- where the cost is within the budget, what is right without one is right
 pub IsRight-within : (structures : Structures) (a b : Specifier) (budget : ℕ) (answer : Answer) → pair_cost a b ≤ budget

@@ -74,3 +74,16 @@ module _ (structures : Structures) (learnt : Learnt) (atoms : List Specifier) (r
             (let plain_b = subst (Belongs structures b) (sym form) (subst (λ s. Belongs structures s o) (bounded-no_predicate true b free_b) h) in
             apart (holds learnt b p) ((holds-Decides structures learnt b p of_b).1 (plain-Belongs structures b p free_b plain_b)) out_b);
       }
+
+  -- where the object of a row is in the first type and outside the second, the first is not included in the second
+  pub some_outside : (i : ℕ) → i < length rows → at inside i ≡ true → at allowed i ≡ false → IsIncluded structures a b → ⊥
+  some_outside i within is_in is_out h =
+      let found = item_at rows i within in
+      let row = found.0 in
+      let has : HasObject structures learnt atoms row = subst (HasObject structures learnt atoms) (get_or_from_slice_get rows i row row found.1) (are.each i row within) in
+      let p = has.object in
+      let signs : slice_get (signs_of rows) i ≡ Some (signs_at learnt atoms p) =
+      slice_get-map (λ r. r.signs) rows i ∙ ap (option_map (λ (r : Row). r.signs)) found.1 ∙ ap Some has.signs in
+      let in_a : holds learnt a p ≡ true = sym (inside_is p i signs) ∙ is_in in
+      let out_b : holds learnt b p ≡ false = sym (allowed_is p i signs) ∙ is_out in
+      apart (holds learnt b p) ((holds-Decides structures learnt b p of_b).1 (h p has.is_object ((holds-Decides structures learnt a p of_a).0 in_a))) out_b

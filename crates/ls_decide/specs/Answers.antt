@@ -2,9 +2,11 @@
 use Rattle.std.specs.Prelude.{ℕ, ◌≡◌, ◌<◌, ◌≤◌, Option, Some, None}
 use Rattle.ls_object.specs.Universe.{Structures, IsPlain}
 use Rattle.ls_object.specs.Meaning.{lisp_object}
+use Rattle.ls_object.specs.declared.table.Code.{Code}
 use Rattle.ls_spec.specs.Specifier.{Specifier}
+use Rattle.ls_spec.specs.Membership.{UpgradesTo}
 use Rattle.ls_spec.specs.Inclusion.{IsIncluded, IsWitness, IsUnsureWitness}
-use Rattle.ls_lists.specs.Costs.{pair_cost}
+use Rattle.ls_lists.specs.Costs.{pair_cost, upgrade_cost}
 use Rattle.ls_decide.specs.declared.answer.Answer.{Answer}
 use Rattle.ls_decide.specs.declared.answer.Answer.TheVariants.{Yes, No, Unsure, TooLarge}
 
@@ -28,6 +30,11 @@ IsPlainAnswer (Unsure o) = IsPlain (lisp_object o)
 abbrev pub IsSure : Answer → Type 0
 IsSure (Unsure o) = ⊥
 IsSure _ = Unit {0}
+
+-- the upgraded code of an element type, or None exactly where the cost of finding it is more than the budget
+abbrev pub IsUpgraded : Structures → Specifier → ℕ → Option Code → Type 0
+IsUpgraded structures e budget None = budget < upgrade_cost e
+IsUpgraded structures e budget (Some code) = (upgrade_cost e ≤ budget) × UpgradesTo structures e code.index
 
 -- the number is the cost, or there is none, exactly where the cost is more than the budget
 abbrev pub TellsCost : ℕ → ℕ → Option ℕ → Type 0

@@ -4,3 +4,4 @@ pub mod Nodes
 pub mod Weights
 pub mod Counting
 pub mod Comparing
+pub mod Learning

@@ -2,6 +2,7 @@
 
 ghost use Rattle.std.specs.Prelude.{◌≡◌, ◌≤◌, ◌<◌, ◌^◌, min, if◌then◌else◌, length, List, IfOk, OnOk};
 ghost use Rattle.std.specs.List.{count_by, list_any, sum_by, flat_map};
+ghost use Rattle.ls_object.specs.declared.table.TheConstants.{TABLE_LEN};
 ghost use Rattle.ls_spec.specs.Specifier.{Specifier};
 ghost use Rattle.ls_spec.specs.Atoms.{atoms_of};
 ghost use Rattle.ls_spec.specs.Distinct.{distinct};
@@ -16,6 +17,7 @@ use crate::cut::{cut_at, least_of, plus, power, times};
 use crate::node::{is_predicate, is_string, weight};
 use crate::shapes::shapes;
 use ls_intern::{Id, Table};
+use ls_object::TABLE_LEN;
 use ls_sides::{Ids, add, element};
 use std::alloc::{AllocError, Global};
 
@@ -122,11 +124,11 @@ fn elements(alloc: Global, table: &Table, atoms: &[Id]) -> Result<Ids, AllocErro
     Ok(out)
 }
 
-/// The number, or 19 where it is more.
+/// The number, or that of all codes where it is more.
 fn at_most_all_codes(n: usize) -> u64
-    ensures { result ≡ min 19 n }
+    ensures { result ≡ min TABLE_LEN n }
 {
-    if n < 19 { n as u64 } else { 19 }
+    n.min(TABLE_LEN) as u64
 }
 
 /// The element codes that the atoms tell apart.

@@ -46,7 +46,7 @@ pub fn cost_of_list(
     }
 }
 
-/// Puts in the element specifiers anywhere in a specifier that are not there.
+/// Puts in the element specifiers anywhere in a specifier that are not there, each behind those in it.
 fn add_elements(table: &Table, id: Id, out: &mut Ids) -> Result<(), AllocError>
     requires id { id < length table.now }
     requires out { AllBelow (length table.now) out.old }
@@ -54,8 +54,8 @@ fn add_elements(table: &Table, id: Id, out: &mut Ids) -> Result<(), AllocError>
 {
     let node = table.node(id);
     if let Some(element) = element(node) {
-        add(table, element, out)?;
-        return add_elements(table, element, out);
+        add_elements(table, element, out)?;
+        return add(table, element, out);
     }
     if let Some((car, cdr)) = cons_sides(node) {
         add_elements(table, car, out)?;
@@ -72,8 +72,8 @@ fn add_elements(table: &Table, id: Id, out: &mut Ids) -> Result<(), AllocError>
     }
 }
 
-/// The distinct element specifiers anywhere in the specifiers.
-fn elements_of(alloc: Global, table: &Table, list: &[Id]) -> Result<Ids, AllocError>
+/// The distinct element specifiers anywhere in the specifiers, each behind those in it.
+pub(crate) fn elements_of(alloc: Global, table: &Table, list: &[Id]) -> Result<Ids, AllocError>
     requires { AllBelow (length table.now) list.now }
     ensures below { IfOk result (λ ids. AllBelow (length table.now) ids) }
     ensures are { IfOk result (λ ids. specifiers_at table.now ids ≡ distinct (flat_map elements_in (specifiers_at table.now list.now))) }
@@ -86,7 +86,7 @@ fn elements_of(alloc: Global, table: &Table, list: &[Id]) -> Result<Ids, AllocEr
 }
 
 /// What each of the specifiers costs, in a list with the entries, all together.
-fn cost_with_entries(
+pub(crate) fn cost_with_entries(
     alloc: Global,
     table: &Table,
     elements: &[Id],

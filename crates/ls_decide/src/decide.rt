@@ -1,23 +1,26 @@
 // The decision on a pair of types, over what a store keeps.
 
-ghost use Rattle.std.specs.Prelude.{◌≡◌, ◌≤◌, ◌<◌, ◌+◌, ◌^◌, length, IfOk};
+ghost use Rattle.std.specs.Prelude.{◌≡◌, ◌≤◌, ◌<◌, ◌+◌, ◌^◌, [], ◌∷◌, length, IfOk};
 ghost use Rattle.ls_spec.specs.Meaning.{specifier};
 ghost use Rattle.ls_spec.specs.Fits.{Fits};
-ghost use Rattle.ls_lists.specs.Costs.{pair_cost};
+ghost use Rattle.ls_lists.specs.Costs.{pair_cost, upgrade_cost, upgrade_lists};
 ghost use Rattle.ls_intern.specs.Places.{at, specifiers_at, AllBelow};
 ghost use Rattle.ls_cells.specs.Cells.{IsBuilt};
-ghost use Rattle.ls_cells.specs.Kept.{structures_in, specifiers_in, entries_in};
-ghost use Rattle.ls_decide.specs.Answers.{IsRight, IsPlainAnswer, IsSure};
-ghost use Rattle.ls_decide.specs.Sessions.{pair_list, Works, HasDone};
+ghost use Rattle.ls_cells.specs.Codes.{HasCodes};
+ghost use Rattle.ls_cells.specs.Kept.{structures_in, specifiers_in, codes_in, entries_in};
+ghost use Rattle.ls_decide.specs.Answers.{IsRight, IsPlainAnswer, IsSure, IsUpgraded};
+ghost use Rattle.ls_decide.specs.Sessions.{pair_list, decided_lists, Works, HasMade, HasDone, HasUpgraded};
 ghost use Rattle.ls_decide.specs.steps.Comparing.{IsRightWithin};
 
 use crate::answer::Answer;
 use crate::compare::compare;
-use crate::cost::cost_of_list;
+use crate::cost::{cost_of_list, elements_of};
+use crate::learn::learn_within;
 use ls_cells::Store;
 use ls_intern::Id;
 use ls_memo::Steps;
-use ls_sides::distinct_of;
+use ls_object::Code;
+use ls_sides::{add, distinct_of};
 use ls_spec::Spec;
 use std::alloc::{AllocError, Global};
 use std::sync::ledger::Ledger;
@@ -39,20 +42,22 @@ fn decide_by_list<L: Ledger>(
     requires second_fits { Fits (structures_in store.old) (at (specifiers_in store.old) b) }
     requires first_built { IsBuilt (at (specifiers_in store.old) a) }
     requires second_built { IsBuilt (at (specifiers_in store.old) b) }
+    requires first_learnt { HasCodes (codes_in store.old) (at (specifiers_in store.old) a) }
+    requires second_learnt { HasCodes (codes_in store.old) (at (specifiers_in store.old) b) }
     ensures structures { structures_in store.new ≡ structures_in store.old }
     ensures right { IfOk result (IsRightWithin (structures_in store.old) (at (specifiers_in store.old) a) (at (specifiers_in store.old) b)) }
     ensures plain { IfOk result IsPlainAnswer }
     ensures sure { IfOk result IsSure }
-    ensures works { Works (specifiers_at (specifiers_in store.old) pair.now) (entries_in store.old) (entries_in store.new) steps.old steps.new }
-    ensures done { IfOk result (HasDone (specifiers_at (specifiers_in store.old) pair.now) (entries_in store.old) (entries_in store.new) steps.old steps.new) }
+    ensures works { Works (specifiers_at (specifiers_in store.old) pair.now ∷ []) (entries_in store.old) (entries_in store.new) steps.old steps.new }
+    ensures done { IfOk result (λ answer. HasMade (specifiers_at (specifiers_in store.old) pair.now ∷ []) (entries_in store.old) (entries_in store.new)) }
 {
     store.fill(pair, steps)?;
     Ok(compare(alloc, store.table(), store.cells(pair), a, b)?)
 }
 
 /// Whether every object of the first type belongs to the second, or TooLarge where that costs more than the budget. The
-/// cost is counted over the store's own table: no element type and no predicate stands in types that are built, so it is
-/// that of the list of both.
+/// cost is counted over the store's own table. No predicate stands in types that are built, so it is that of the list of
+/// both and of the element types in them, which are learnt first.
 pub(crate) fn decide<L: Ledger>(
     alloc: Global,
     store: &mut Store,
@@ -70,14 +75,53 @@ pub(crate) fn decide<L: Ledger>(
     ensures right { IfOk result (IsRight (structures_in store.old) (specifier a.now) (specifier b.now) budget) }
     ensures plain { IfOk result IsPlainAnswer }
     ensures sure { IfOk result IsSure }
-    ensures works { Works (pair_list (specifier a.now) (specifier b.now)) (entries_in store.old) (entries_in store.new) steps.old steps.new }
-    ensures done { IfOk result (HasDone (pair_list (specifier a.now) (specifier b.now)) (entries_in store.old) (entries_in store.new) steps.old steps.new) }
+    ensures works { Works (decided_lists (specifier a.now) (specifier b.now))
+        (entries_in store.old) (entries_in store.new) steps.old steps.new }
+    ensures cost { steps.new ≤ steps.old + pair_cost (specifier a.now) (specifier b.now) }
+    ensures done { IfOk result (HasDone (decided_lists (specifier a.now) (specifier b.now))
+        (entries_in store.old) (entries_in store.new) steps.old steps.new) }
 {
+    // Its contract says that where a list is kept, so are those that it reaches.
+    let _closed = store.table();
     let first = store.intern(a)?;
     let second = store.intern(b)?;
     let pair = distinct_of(alloc, store.table(), first, &[second])?;
-    match cost_of_list(alloc, store.table(), pair.as_slice(), budget)? {
-        None => Ok(Answer::TooLarge),
-        Some(_) => Ok(decide_by_list(alloc, store, first, second, pair.as_slice(), steps)?),
+    let Some(own) = cost_of_list(alloc, store.table(), pair.as_slice(), budget)? else {
+        return Ok(Answer::TooLarge);
+    };
+    let elements = elements_of(alloc, store.table(), &[first, second])?;
+    if !learn_within(alloc, store, elements.as_slice(), budget - own, steps)? {
+        return Ok(Answer::TooLarge);
     }
+    Ok(decide_by_list(alloc, store, first, second, pair.as_slice(), steps)?)
+}
+
+/// The upgraded code of an element type, or None where finding it costs more than the budget.
+pub(crate) fn upgrade<L: Ledger>(
+    alloc: Global,
+    store: &mut Store,
+    e: &Spec,
+    budget: u64,
+    steps: &mut Steps<L>,
+) -> Result<Option<Code>, AllocError>
+    requires fits { Fits (structures_in store.old) (specifier e.now) }
+    requires built { IsBuilt (specifier e.now) }
+    requires budget { budget ≤ 2 ^ 30 }
+    ensures structures { structures_in store.new ≡ structures_in store.old }
+    ensures right { IfOk result (IsUpgraded (structures_in store.old) (specifier e.now) budget) }
+    ensures works { Works (upgrade_lists (specifier e.now))
+        (entries_in store.old) (entries_in store.new) steps.old steps.new }
+    ensures cost { steps.new ≤ steps.old + upgrade_cost (specifier e.now) }
+    ensures done { IfOk result (HasUpgraded (upgrade_lists (specifier e.now))
+        (entries_in store.old) (entries_in store.new) steps.old steps.new) }
+{
+    // Its contract says that where a list is kept, so are those that it reaches.
+    let _closed = store.table();
+    let element = store.intern(e)?;
+    let mut elements = elements_of(alloc, store.table(), &[element])?;
+    add(store.table(), element, &mut elements)?;
+    if !learn_within(alloc, store, elements.as_slice(), budget, steps)? {
+        return Ok(None);
+    }
+    Ok(store.code(element))
 }

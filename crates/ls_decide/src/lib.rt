@@ -9,9 +9,11 @@ mod cost;
 mod counting;
 mod cut;
 mod decide;
+mod learn;
 mod node;
 mod session;
 mod shapes;
+mod upgrade;
 
 pub use answer::Answer;
 pub use session::Session;

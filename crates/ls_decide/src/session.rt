@@ -3,18 +3,19 @@
 ghost use Rattle.std.specs.Prelude.{◌≡◌, ◌≤◌, ◌<◌, ◌+◌, ◌-◌, ◌^◌, [], min, length, IfOk};
 ghost use Rattle.ls_spec.specs.Meaning.{specifier};
 ghost use Rattle.ls_spec.specs.Fits.{Fits};
-ghost use Rattle.ls_lists.specs.Costs.{pair_cost, type_cost};
+ghost use Rattle.ls_lists.specs.Costs.{pair_cost, type_cost, upgrade_cost, upgrade_lists};
 ghost use Rattle.ls_cells.specs.Cells.{IsBuilt};
 ghost use Rattle.ls_cells.specs.Kept.{structures_in, entries_in, count_rows};
-ghost use Rattle.ls_decide.specs.Answers.{IsRight, IsPlainAnswer, IsSure, TellsCost};
-ghost use Rattle.ls_decide.specs.Sessions.{pair_list, Works, HasDone};
+ghost use Rattle.ls_decide.specs.Answers.{IsRight, IsPlainAnswer, IsSure, IsUpgraded, TellsCost};
+ghost use Rattle.ls_decide.specs.Sessions.{decided_lists, Works, HasDone, HasUpgraded};
 
 use crate::answer::Answer;
 use crate::cost::{add_entries, cost_of_elements, cost_of_list, cost_of_predicates};
-use crate::decide::decide;
+use crate::decide::{decide, upgrade};
 use ls_cells::Store;
 use ls_intern::Table;
 use ls_memo::Steps;
+use ls_object::Code;
 use ls_sides::distinct_of;
 use ls_spec::Spec;
 use ls_structs::Tree;
@@ -46,7 +47,7 @@ impl Model for Session {
 impl Session {
     /// A session over the structure types of the tree, for which no rows are kept.
     pub fn new(alloc: Global, tree: Tree) -> Result<Session, AllocError>
-        ensures { IfOk result (λ s. s ≡ (tree, ([], []))) }
+        ensures { IfOk result (λ s. s ≡ (tree, ([], ([], [])))) }
     {
         let store = Store::new(alloc, tree.parents().copy()?);
         Ok(Session { alloc, store })
@@ -125,10 +126,31 @@ impl Session {
         ensures right { IfOk result (IsRight (structures_in self.old) (specifier a.now) (specifier b.now) budget) }
         ensures plain { IfOk result IsPlainAnswer }
         ensures sure { IfOk result IsSure }
-        ensures works { Works (pair_list (specifier a.now) (specifier b.now)) (entries_in self.old) (entries_in self.new) steps.old steps.new }
+        ensures works { Works (decided_lists (specifier a.now) (specifier b.now)) (entries_in self.old) (entries_in self.new) steps.old steps.new }
         ensures cost { steps.new ≤ steps.old + pair_cost (specifier a.now) (specifier b.now) }
-        ensures done { IfOk result (HasDone (pair_list (specifier a.now) (specifier b.now)) (entries_in self.old) (entries_in self.new) steps.old steps.new) }
+        ensures done { IfOk result (HasDone (decided_lists (specifier a.now) (specifier b.now)) (entries_in self.old) (entries_in self.new) steps.old steps.new) }
     {
         decide(self.alloc, &mut self.store, a, b, budget, steps)
+    }
+
+    /// The upgraded code of an element type (UPGRADED-ARRAY-ELEMENT-TYPE): the first entry of the upgrading table that
+    /// holds each of its objects; None exactly where finding it costs more than the budget. An error comes for want of
+    /// memory; the answers that follow are right all the same.
+    pub fn upgrade<L: Ledger>(
+        &mut self,
+        e: &Spec,
+        budget: u64,
+        steps: &mut Steps<L>,
+    ) -> Result<Option<Code>, AllocError>
+        requires fits { Fits (structures_in self.old) (specifier e.now) }
+        requires built { IsBuilt (specifier e.now) }
+        requires budget { budget ≤ 2 ^ 30 }
+        ensures structures { structures_in self.new ≡ structures_in self.old }
+        ensures right { IfOk result (IsUpgraded (structures_in self.old) (specifier e.now) budget) }
+        ensures works { Works (upgrade_lists (specifier e.now)) (entries_in self.old) (entries_in self.new) steps.old steps.new }
+        ensures cost { steps.new ≤ steps.old + upgrade_cost (specifier e.now) }
+        ensures done { IfOk result (HasUpgraded (upgrade_lists (specifier e.now)) (entries_in self.old) (entries_in self.new) steps.old steps.new) }
+    {
+        upgrade(self.alloc, &mut self.store, e, budget, steps)
     }
 }

@@ -9,21 +9,21 @@ use Rattle.ls_sides.proofs.NodeLemmas.{branches_below, sides_some}
 use Rattle.ls_decide.proofs.NodeLemmas.{branches_elements, element_some, sides_elements, no_elements}
 use Rattle.ls_decide.proofs.cost.+add_elements.Goals as goal
 
-pub add-requires : goal.add-requires
-add-requires t c =
-    let e = element_some c.args.table.now c.args.id c.node-node.result.now c.in-Some.element c.node-node.ensures.before (sym c.element.ensures ∙ c.in-Some.is) in
-    record { id = omega (arith, e.0, c.requires.id); out = c.requires.out }
-
 pub add_elements-requires : goal.add_elements-requires
 add_elements-requires t c =
     let e = element_some c.args.table.now c.args.id c.node-node.result.now c.in-Some.element c.node-node.ensures.before (sym c.element.ensures ∙ c.in-Some.is) in
-    (omega (arith, c.decreases, e.0), (omega (arith, e.0, c.requires.id), c.in_ok-add.ensures.below))
+    (omega (arith, c.decreases, e.0), (omega (arith, e.0, c.requires.id), c.requires.out))
+
+pub add-requires : goal.add-requires
+add-requires t c =
+    let e = element_some c.args.table.now c.args.id c.node-node.result.now c.in-Some.element c.node-node.ensures.before (sym c.element.ensures ∙ c.in-Some.is) in
+    record { id = omega (arith, e.0, c.requires.id); out = c.in_ok-add_elements.ensures.below }
 
 pub returns-in-Some : goal.returns-in-Some
 returns-in-Some t c =
     let e = element_some c.args.table.now c.args.id c.node-node.result.now c.in-Some.element c.node-node.ensures.before (sym c.element.ensures ∙ c.in-Some.is) in
     let f = ap elements_in (sym c.node-node.ensures.says) ∙ e.1.1 in
-    on_ok_weaker _ (λ g. subst (Gathers c.args.table.now c.args.out.now _) (sym f) (gathers_both c.args.table.now c.args.out.now _ _ (at c.args.table.now c.in-Some.element ∷ []) (elements_in (at c.args.table.now c.in-Some.element)) c.in_ok-add.ensures g)) c.add_elements.ensures
+    on_ok_weaker _ (λ g. subst (Gathers c.args.table.now c.args.out.now _) (sym f) (gathers_both c.args.table.now c.args.out.now _ _ (elements_in (at c.args.table.now c.in-Some.element)) (at c.args.table.now c.in-Some.element ∷ []) c.in_ok-add_elements.ensures g)) c.add.ensures
 
 pub add_elements-requires-in-Some-cons_sides : goal.add_elements-requires-in-Some-cons_sides
 add_elements-requires-in-Some-cons_sides t c =
@@ -33,12 +33,12 @@ add_elements-requires-in-Some-cons_sides t c =
 pub add_elements-requires-in-Some-cons_sides-2 : goal.add_elements-requires-in-Some-cons_sides-2
 add_elements-requires-in-Some-cons_sides-2 t c =
     let e = sides_some c.args.table.now c.args.id c.node-node.result.now c.in-Some-cons_sides.car c.in-Some-cons_sides.cdr c.node-node.ensures.before (sym c.cons_sides.ensures ∙ c.in-Some-cons_sides.is) in
-    (omega (arith, c.decreases, e.0.1), (omega (arith, e.0.1, c.requires.id), c.in_ok-add_elements.ensures.below))
+    (omega (arith, c.decreases, e.0.1), (omega (arith, e.0.1, c.requires.id), c.in_ok-add_elements-2.ensures.below))
 
 pub returns-in-Some-cons_sides : goal.returns-in-Some-cons_sides
 returns-in-Some-cons_sides t c =
     let f = ap elements_in (sym c.node-node.ensures.says) ∙ sides_elements c.args.table.now c.node-node.result.now c.in-Some-cons_sides.car c.in-Some-cons_sides.cdr (sym c.cons_sides.ensures ∙ c.in-Some-cons_sides.is) in
-    on_ok_weaker _ (λ g. subst (Gathers c.args.table.now c.args.out.now _) (sym f) (gathers_both c.args.table.now c.args.out.now _ _ _ _ c.in_ok-add_elements.ensures g)) c.add_elements-in-Some-cons_sides-2.ensures
+    on_ok_weaker _ (λ g. subst (Gathers c.args.table.now c.args.out.now _) (sym f) (gathers_both c.args.table.now c.args.out.now _ _ _ _ c.in_ok-add_elements-2.ensures g)) c.add_elements-in-Some-cons_sides-2.ensures
 
 pub add_elements-requires-in-loop-part : goal.add_elements-requires-in-loop-part
 add_elements-requires-in-loop-part t c =
