@@ -5,8 +5,10 @@ use crate::decide::{push_pair_cost, push_type_cost};
 use crate::intern::{push_counts, push_numbers, push_trees};
 use crate::points::{Class, push_shares, push_within};
 use crate::sides::{push_levels, push_sides};
+use crate::slow::push_slow;
 use crate::spec::{push_atoms, push_members};
 use crate::texts::list_of;
+use crate::upgrade::push_codes;
 use ls_object::Items;
 use ls_spec::Spec;
 use std::alloc::Global;
@@ -28,6 +30,8 @@ pub(crate) enum Asked {
     TypeCost,
     Shares(Class),
     Within,
+    Codes(u16),
+    Slow,
 }
 
 /// Writes the answer.
@@ -47,6 +51,8 @@ fn push_told(alloc: Global, out: &mut String, asked: Asked, list: &Items<Spec>) 
         Asked::TypeCost => push_type_cost(alloc, out, list.as_slice()),
         Asked::Shares(class) => push_shares(alloc, out, class, list),
         Asked::Within => push_within(alloc, out, list),
+        Asked::Codes(budget) => push_codes(alloc, out, budget, list.as_slice()),
+        Asked::Slow => push_slow(alloc, out, list.as_slice()),
     }
 }
 

@@ -20,7 +20,7 @@ fn describe(out: &mut String, found: &Result<Spec, Stop>) -> Result<(), AllocErr
 }
 
 /// What the first datum of a text resolves to; None where it has none.
-fn resolution(alloc: Global, text: &str) -> Option<String> {
+pub fn resolution(alloc: Global, text: &str) -> Option<String> {
     let data = data_of(alloc, text)?;
     let env = Env::of_file(alloc, &data).ok()?;
     let found = resolve(alloc, &env, data.as_slice().first()?);
@@ -29,7 +29,7 @@ fn resolution(alloc: Global, text: &str) -> Option<String> {
     Some(out)
 }
 
-const RESOLVED: [(&str, &str); 32] = [
+const RESOLVED: [(&str, &str); 33] = [
     ("t", "all"),
     ("nil", "nothing"),
     ("null", "NIL"),
@@ -71,6 +71,7 @@ const RESOLVED: [(&str, &str); 32] = [
     ("(cons (cons *) *)", "(cons (cons all all) all)"),
     ("atom", "not (cons all all)"),
     ("list", "(or NIL (cons all all))"),
+    ("sequence", "(or (or NIL (cons all all)) (array * *))"),
 ];
 
 const REFUSED: [(&str, &str); 56] = [
@@ -124,7 +125,7 @@ const REFUSED: [(&str, &str); 56] = [
     ("(cons t t t)", "BadArgument 1"),
     ("(cons * (or *))", "StarNotAllowed 13"),
     ("(cons (eql) (mod 0))", "BadArgument 7"),
-    ("sequence", "NotBuilt 1"),
+    ("(sequence)", "BadArgument 1"),
     ("satisfies", "NotBuilt 1"),
     ("(foo *)", "NotBuilt 1"),
     ("(not foo)", "NotBuilt 6"),
@@ -133,11 +134,16 @@ const REFUSED: [(&str, &str); 56] = [
 ];
 
 #[test]
-fn data_resolve_or_are_refused(rt: HostRuntime) -> Result<(), Fail> {
+fn data_resolve(rt: HostRuntime) -> Result<(), Fail> {
     for (text, want) in RESOLVED {
         let found = resolution(rt.alloc(), text).ok_or("the text is read")?;
         assert_eq!(rt; found.as_str(), want, "at {text:?}");
     }
+    Ok(())
+}
+
+#[test]
+fn data_are_refused(rt: HostRuntime) -> Result<(), Fail> {
     for (text, want) in REFUSED {
         let found = resolution(rt.alloc(), text).ok_or("the text is read")?;
         assert_eq!(rt; found.as_str(), want, "at {text:?}");
@@ -159,35 +165,79 @@ fn nested(alloc: Global, open: &str, depth: usize) -> Option<String> {
 }
 
 /// What the first datum of a text nested so deep resolves to.
-fn nested_resolution(alloc: Global, depth: usize) -> Option<String> {
-    let text = nested(alloc, "(and ", depth)?;
+fn nested_resolution(alloc: Global, open: &str, depth: usize) -> Option<String> {
+    let text = nested(alloc, open, depth)?;
     resolution(alloc, &text)
 }
 
-/// MEMBER of so many objects.
-fn many(alloc: Global, count: usize) -> Option<String> {
-    let mut text = String::from_str(alloc, "(member").ok()?;
+/// An opening, an item so many times, and what closes it.
+fn many(alloc: Global, open: &str, item: &str, count: usize, close: &str) -> Option<String> {
+    let mut text = String::from_str(alloc, open).ok()?;
     for _ in 0..count {
-        text.push_str(" a").ok()?;
+        text.push_str(item).ok()?;
     }
-    text.push_str(")").ok()?;
+    text.push_str(close).ok()?;
     Some(text)
 }
 
-/// What MEMBER of so many objects resolves to.
-fn many_resolution(alloc: Global, count: usize) -> Option<String> {
-    let text = many(alloc, count)?;
+/// What a text with so many items resolves to.
+fn many_resolution(
+    alloc: Global,
+    open: &str,
+    item: &str,
+    count: usize,
+    close: &str,
+) -> Option<String> {
+    let text = many(alloc, open, item, count, close)?;
     resolution(alloc, &text)
+}
+
+/// An element type is one deeper than its array.
+#[test]
+fn depth_of_parts(rt: HostRuntime) -> Result<(), Fail> {
+    for (open, start, refusal) in [
+        ("(and ", "(and (and ", "TooDeep 1281"),
+        ("(vector ", "(array (array ", "TooDeep 2049"),
+    ] {
+        let found = nested_resolution(rt.alloc(), open, 255).ok_or("the text is read")?;
+        assert!(rt; found.as_str().starts_with(start));
+        let found = nested_resolution(rt.alloc(), open, 256).ok_or("the text is read")?;
+        assert_eq!(rt; found.as_str(), refusal);
+    }
+    Ok(())
 }
 
 /// MEMBER itself takes one of the room, so the last object finds none, and all before it did.
 #[test]
-fn depth_and_room(rt: HostRuntime) -> Result<(), Fail> {
-    let found = nested_resolution(rt.alloc(), 255).ok_or("the text is read")?;
-    assert!(rt; found.as_str().starts_with("(and (and "));
-    let found = nested_resolution(rt.alloc(), 256).ok_or("the text is read")?;
-    assert_eq!(rt; found.as_str(), "TooDeep 1281");
-    let found = many_resolution(rt.alloc(), 262_144).ok_or("the text is read")?;
+fn room_of_objects(rt: HostRuntime) -> Result<(), Fail> {
+    let found = many_resolution(rt.alloc(), "(member", " a", 262_144, ")").ok_or(
+        "the text is read",
+    )?;
     assert_eq!(rt; found.as_str(), "TooManyNodes 524295");
+    Ok(())
+}
+
+/// OR, MEMBER and its objects leave one of the room: the vector takes it, and its element type finds none.
+#[test]
+fn room_of_element_types(rt: HostRuntime) -> Result<(), Fail> {
+    let found = many_resolution(rt.alloc(), "(or (member", " a", 262_141, ") (vector t))").ok_or(
+        "the text is read",
+    )?;
+    assert_eq!(rt; found.as_str(), "TooManyNodes 524304");
+    Ok(())
+}
+
+/// A list of dimensions is looked at by its length before its dimensions are, and a rank asks for as many of any size.
+#[test]
+fn ranks(rt: HostRuntime) -> Result<(), Fail> {
+    let found = many_resolution(rt.alloc(), "(array * (*", " *", 254, "))").ok_or(
+        "the text is read",
+    )?;
+    let rank = resolution(rt.alloc(), "(array * 255)").ok_or("the text is read")?;
+    assert_eq!(rt; found.as_str(), rank.as_str());
+    let found = many_resolution(rt.alloc(), "(array * (a", " *", 255, "))").ok_or(
+        "the text is read",
+    )?;
+    assert_eq!(rt; found.as_str(), "NumberTooWide 10");
     Ok(())
 }

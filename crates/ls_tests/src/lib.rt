@@ -8,6 +8,8 @@ mod arrays;
 #[cfg(test)]
 mod asked;
 #[cfg(test)]
+mod built;
+#[cfg(test)]
 mod builtin;
 #[cfg(test)]
 mod copies;
@@ -19,6 +21,8 @@ mod env;
 mod faults;
 #[cfg(test)]
 mod grammar;
+#[cfg(test)]
+mod grammar_arrays;
 #[cfg(test)]
 mod intern;
 #[cfg(test)]
@@ -42,6 +46,8 @@ mod sides;
 #[cfg(test)]
 mod simple;
 #[cfg(test)]
+mod slow;
+#[cfg(test)]
 mod spec;
 #[cfg(test)]
 mod structs;
@@ -49,3 +55,5 @@ mod structs;
 mod tables;
 #[cfg(test)]
 mod texts;
+#[cfg(test)]
+mod upgrade;

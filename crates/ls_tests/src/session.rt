@@ -4,8 +4,8 @@
 ghost use Rattle.std.specs.Prelude.{◌≡◌, ◌<◌, []};
 ghost use Rattle.ls_cells.specs.Kept.{structures_in};
 
+use crate::built::is_built;
 use crate::decide::tagged;
-use crate::simple::is_simple;
 use crate::texts::list_of;
 use ls_decide::{Answer, Session};
 use ls_memo::Steps;
@@ -53,7 +53,7 @@ fn answer_of<L: Ledger>(
     ensures { structures_in session.new ≡ [] }
 {
     let parents = Parents::new(alloc);
-    if is_simple(a) && is_simple(b) && a.fits(&parents) && b.fits(&parents) {
+    if is_built(a) && is_built(b) && a.fits(&parents) && b.fits(&parents) {
         session.subtypep(a, b, u64::from(budget), steps).ok()
     } else {
         None
@@ -143,6 +143,38 @@ const ANSWERS: &str =
     "TOO-LARGE 0/0; NIL 0 3/1; NIL 0 3/1; T 6/2; NIL 2 9/3; TOO-LARGE 9/3; NIL (1) 16/6; \
     TOO-LARGE 16/6; NIL 0 16/6; ";
 
+/// Pairs with arrays, the first three times. The witness is the only one.
+const ARRAY_PAIRS: &str = "(simple-array (mod 100) (3)) (vector (signed-byte 8)) \
+    (simple-array (mod 100) (3)) (vector (signed-byte 8)) (simple-array (mod 100) (3)) (vector (signed-byte 8)) \
+    (vector (mod 100)) (vector (unsigned-byte 7)) (vector (vector bit)) (vector t) vector array \
+    string (or base-string (array character) (array nil)) vector array";
+
+/// The first pair costs 39 (two element types and three shapes), 109 for (MOD 100) and 103 for (SIGNED-BYTE 8): these
+/// have 19 and 18 rows with the table, and the pair has 3. Then (UNSIGNED-BYTE 7) has 18, BIT 18, the vectors of bits 19
+/// and T 18; BASE-CHAR, CHARACTER and NIL have 18 each. The other pairs have 2, 2, 3 and 6 rows.
+const ARRAY_ANSWERS: &str = "TOO-LARGE 0/0; NIL #<ARRAY (UNSIGNED-BYTE 7) (3) SIMPLE> 40/3; \
+    NIL #<ARRAY (UNSIGNED-BYTE 7) (3) SIMPLE> 40/3; T 60/5; T 117/9; T 120/10; T 180/14; T 180/14; ";
+
+/// The OR of the vectors of so many element types, which are all of one code, and those of that code.
+fn many_vectors(alloc: Global, count: u32) -> Option<String> {
+    let mut text = String::from_str(alloc, "(or").ok()?;
+    for n in 0..count {
+        write!(text, " (vector (mod {}))", n.checked_add(3)?).ok()?;
+    }
+    text.push_str(") (vector (unsigned-byte 7)) ").ok()?;
+    Some(text)
+}
+
+/// The arrays of so many dimensions, of which the last but one is 7, and all arrays of bits of one dimension more.
+fn many_dimensions(alloc: Global, count: u32) -> Option<String> {
+    let mut text = String::from_str(alloc, "(array bit (").ok()?;
+    for _ in 0..count {
+        text.push_str("* ").ok()?;
+    }
+    write!(text, "7 *)) (array bit {}) ", count.checked_add(2)?).ok()?;
+    Some(text)
+}
+
 /// So many pairs of conses with 63 keywords, three times.
 fn thrice(alloc: Global) -> Option<String> {
     let once = tagged(alloc, 63)?;
@@ -157,11 +189,41 @@ fn thrice(alloc: Global) -> Option<String> {
 fn a_session_keeps_what_it_makes(rt: HostRuntime) {
     let budgets = [34, 35, 35, 35, 29, 77, 78, 34, 35];
     assert!(rt; is_answered(rt.alloc(), PAIRS, &budgets, ANSWERS));
+    let budgets = [250, 251, 251, 245, 348, 25, 358, 25];
+    assert!(rt; is_answered(rt.alloc(), ARRAY_PAIRS, &budgets, ARRAY_ANSWERS));
     // 65 rows for the pair and as many for its cars, 4 for the cdrs, and 2 for each of four lists below
     let text = thrice(rt.alloc());
     assert!(rt; text.is_some());
     if let Some(text) = text {
         let want = "TOO-LARGE 0/0; T 142/7; T 142/7; ";
         assert!(rt; is_answered(rt.alloc(), &text, &[3992, 3993, 3993], want));
+    }
+}
+
+/// A text twice.
+fn twice(alloc: Global, once: Option<String>) -> Option<String> {
+    let once = once?;
+    let mut text = String::new(alloc);
+    for _ in 0..2 {
+        text.push_str(once.as_str()).ok()?;
+    }
+    Some(text)
+}
+
+#[test]
+fn a_type_has_many_element_types_or_dimensions(rt: HostRuntime) {
+    // 60 times 109 and 103; 20, 80 for arrays of all codes and 1 for the pair. 60 times 19 rows, 18, and 2 for the pair
+    let text = twice(rt.alloc(), many_vectors(rt.alloc(), 60));
+    assert!(rt; text.is_some());
+    if let Some(text) = text {
+        let want = "TOO-LARGE 0/0; T 1160/62; ";
+        assert!(rt; is_answered(rt.alloc(), &text, &[6743, 6744], want));
+    }
+    // 20, 12 for arrays of one element type and two shapes, and 1; 103 for BIT. 18 rows, and 3 for the pair
+    let text = twice(rt.alloc(), many_dimensions(rt.alloc(), 253));
+    assert!(rt; text.is_some());
+    if let Some(text) = text {
+        let want = "TOO-LARGE 0/0; T 21/2; ";
+        assert!(rt; is_answered(rt.alloc(), &text, &[135, 136], want));
     }
 }

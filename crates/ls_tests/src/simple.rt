@@ -1,4 +1,4 @@
-//! Specifiers that a session decides so far.
+//! Specifiers that ask about one object alone.
 
 ghost use Rattle.std.specs.Prelude.{IsTrue};
 ghost use Rattle.ls_spec.specs.Meaning.{specifier, specifiers};

@@ -18,7 +18,7 @@ fn shape_of_point(point: &Point) -> Option<Shape> {
 
 /// The object of a specifier that is made of EQL, CONS and kinds.
 #[cycle(object)]
-fn object_of(alloc: Global, spec: &Spec) -> Option<Object> {
+pub(crate) fn object_of(alloc: Global, spec: &Spec) -> Option<Object> {
     let shape = match spec {
         Spec::Eql(point) => shape_of_point(point)?,
         Spec::Kind(kind) => Shape::Opaque(*kind),

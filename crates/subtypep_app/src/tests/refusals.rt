@@ -6,7 +6,7 @@ use ls_io::LIMIT;
 use std::test::Fail;
 
 /// Texts with a refused query, and their lines.
-const REFUSED: [Row<'static>; 24] = [
+const REFUSED: [Row<'static>; 26] = [
     (
         b"(subtypep '(float 0.0 1.0) 'float)",
         b"1:1 REFUSED FLOAT-RANGE 1:12\n",
@@ -40,22 +40,30 @@ const REFUSED: [Row<'static>; 24] = [
         b"1:1 REFUSED BAD-ARGUMENT 1:12\n",
     ),
     (
-        b"(subtypep 'sequence 'integer)",
+        b"(subtypep '(satisfies p) 'integer)",
         b"1:1 REFUSED NOT-BUILT 1:12\n",
     ),
     (
-        b"(subtypep '(and (vector t)) 'integer)",
+        b"(subtypep '(and (satisfies p)) 'integer)",
         b"1:1 REFUSED NOT-BUILT 1:17\n",
     ),
     (
-        b"(subtypep 'integer 'string)",
+        b"(subtypep 'integer '(satisfies p))",
         b"1:1 REFUSED NOT-BUILT 1:21\n",
+    ),
+    (
+        b"(subtypep '(vector (satisfies p)) 'bit-vector)",
+        b"1:1 REFUSED NOT-BUILT 1:20\n",
+    ),
+    (
+        b"(subtypep '(vector t (2)) 'sequence)",
+        b"1:1 REFUSED BAD-ARGUMENT 1:22\n",
     ),
     (b"(subtypep :a t)", b"1:1 REFUSED NOT-BUILT 1:11\n"),
     (b"(subtypep 't :a)", b"1:1 REFUSED NOT-BUILT 1:14\n"),
     // The refusal of the first type comes first.
     (
-        b"(subtypep 'vector '(float 1))",
+        b"(subtypep '(satisfies p) '(float 1))",
         b"1:1 REFUSED NOT-BUILT 1:12\n",
     ),
     // An argument that is not quoted comes before it.
