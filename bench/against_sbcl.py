@@ -4,9 +4,10 @@
     bench/against_sbcl.py PROGRAM TEXT [RUNS]
 
 Both read the whole text; both answer each top-level `(subtypep 'a 'b)` in it (SBCL with its own SUBTYPEP). Printed are
-the least processor seconds of some runs (3 by default), the start of the process included, and how the answers compare: by how
-many each says T and NIL, and for how many SBCL isn't sure. It is skipped where `sbcl` is missing. The two decide types
-by different rules (upgrading, the kinds of objects), so the answers may differ where such a rule matters.
+the least processor seconds of some runs (3 by default), the start of the process included, and how the answers
+compare: by how many each says T and NIL, and for how many SBCL isn't sure. It is skipped where `sbcl` is missing. The
+two decide types by different rules (upgrading, which arrays and sequences there are, the kinds of objects), so the
+answers may differ where such a rule matters: of the queries of examples/arrays.lisp they do for one, on SEQUENCE.
 """
 import collections
 import os

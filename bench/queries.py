@@ -11,8 +11,13 @@
     bench/queries.py nots N       (not (cons integer (not (cons ..)))), N deep, against itself
     bench/queries.py overlaps N   conses N deep, at each level an OR of two that overlap, against conses of the whole
     bench/queries.py places N     N + 1 places with N numbers, against "two places alike"
+    bench/queries.py arrays N     the queries of examples/arrays.lisp, N times
+    bench/queries.py elements N   N queries of two vectors whose element types are ranges of integers
+    bench/queries.py shapes N     one query: an OR of N arrays of two dimensions, no two alike, against the reverse
+    bench/queries.py cubes N      the same of three dimensions
 """
 import itertools
+import os
 import random
 import sys
 
@@ -87,6 +92,26 @@ def places(count):
     ask(listed([f'(integer 1 {count})'] * (count + 1)), joined('or', alike))
 
 
+def arrays(count):
+    top = os.path.dirname(os.path.dirname(os.path.abspath(__file__)))
+    with open(os.path.join(top, 'examples/arrays.lisp'), encoding='utf-8') as file:
+        text = file.read()
+    for _ in range(count):
+        print(text)
+
+
+def elements(count):
+    rng = random.Random(1)
+    for _ in range(count):
+        a, b = (f'(vector (integer {rng.randint(-1000, 0)} {rng.randint(0, 1000)}))' for _ in range(2))
+        ask(a, b)
+
+
+def boxes(rank, count):
+    """An OR of arrays with a number of its own at each place."""
+    against_reverse([f"(array * ({' '.join(str(count * place + n) for place in range(rank))}))" for n in range(count)])
+
+
 def main(kind, count):
     rng = random.Random(1)
     if kind == 'ranges':
@@ -101,8 +126,11 @@ def main(kind, count):
         against_reverse([f'(eql s{n})' for n in range(count)])
     elif kind == 'disjoint':
         against_reverse([f'(integer {10 * n} {10 * n + 4})' for n in range(count)])
-    elif kind in ('member', 'conses', 'nots', 'overlaps', 'places'):
-        {'member': member, 'conses': conses, 'nots': nots, 'overlaps': overlaps, 'places': places}[kind](count)
+    elif kind in ('shapes', 'cubes'):
+        boxes(2 if kind == 'shapes' else 3, count)
+    elif kind in ('member', 'conses', 'nots', 'overlaps', 'places', 'arrays', 'elements'):
+        {'member': member, 'conses': conses, 'nots': nots, 'overlaps': overlaps, 'places': places, 'arrays': arrays,
+         'elements': elements}[kind](count)
     else:
         sys.exit(__doc__)
 

@@ -12,4 +12,5 @@
 (subtypep '(or integer *) t)                                      ; => REFUSED STAR-NOT-ALLOWED
 (subtypep '(float 0.0 1.0) 'float)                                ; => REFUSED FLOAT-RANGE
 (subtypep '(integer 0 18446744073709551617) t)                    ; => REFUSED NUMBER-TOO-WIDE
-(subtypep '(vector integer) t)                                    ; => REFUSED NOT-BUILT
+(subtypep '(vector (member 1 2)) '(array (unsigned-byte 7) 1))    ; => T
+(subtypep '(satisfies evenp) 'integer)                            ; => REFUSED NOT-BUILT
