@@ -13,12 +13,6 @@ use Rattle.ls_object.specs.Inclusion.{Under, itself, through, MayFollow, IsInclu
 use Rattle.ls_object.proofs.SymbolLemmas.{Decides-symbol}
 use Rattle.ls_object.proofs.InclusionLemmas.{IsInclusionOrder-front, Under-front, Under-more, Under-last, Under-root, Under-none}
 
--- the way from x begins at the last structure type
-under_in-last : (rest before : Structures) (p : Symbol × Option Symbol) (x y : Symbol) → rest ≡ before ++ p ∷ []
-    → under_in rest x y ≡ leads (p ∷ reverse before) x y
-under_in-last rest before p x y e =
-    ap (λ t. leads (reverse t) x y) e ∙ ap (λ t. leads t x y) (reverse-append before (p ∷ []))
-
 -- a last structure type of another name is passed by
 leads-passed : (earlier : Structures) (p : Symbol × Option Symbol) (x y : Symbol) → same_symbol p.0 x ≡ false
     → leads (p ∷ earlier) x y ≡ leads earlier x y
@@ -40,29 +34,6 @@ leads-through earlier (name, Some w) x z y some here =
     let same : w ≡ z = cc in
     ap (λ b. if b then same_symbol x y || leads earlier w y else leads earlier x y) here
     ∙ ap (λ t. same_symbol x y || leads earlier t y) same
-
--- the same of the list in order
-pub under_in-passed : (rest before : Structures) (p : Symbol × Option Symbol) (x y : Symbol) → rest ≡ before ++ p ∷ []
-    → same_symbol p.0 x ≡ false → under_in rest x y ≡ under_in before x y
-under_in-passed rest before p x y e other = under_in-last rest before p x y e ∙ leads-passed (reverse before) p x y other
-
-pub under_in-root : (rest before : Structures) (p : Symbol × Option Symbol) (x y : Symbol) → rest ≡ before ++ p ∷ []
-    → p.1 ≡ None → same_symbol p.0 x ≡ true → under_in rest x y ≡ same_symbol x y
-under_in-root rest before p x y e none here =
-    under_in-last rest before p x y e ∙ leads-root (reverse before) p x y none here
-
-pub under_in-through : (rest before : Structures) (p : Symbol × Option Symbol) (x z y : Symbol) → rest ≡ before ++ p ∷ []
-    → p.1 ≡ Some z → same_symbol p.0 x ≡ true → under_in rest x y ≡ (same_symbol x y || under_in before z y)
-under_in-through rest before p x z y e some here =
-    under_in-last rest before p x y e ∙ leads-through (reverse before) p x z y some here
-
--- the way ends at a listed name that is the one asked for
-pub under_in-here : (rest before : Structures) (p : Symbol × Option Symbol) (x y : Symbol) → rest ≡ before ++ p ∷ []
-    → same_symbol p.0 x ≡ true → same_symbol x y ≡ true → under_in rest x y ≡ true
-under_in-here rest before (name, None) x y e here reached =
-    under_in-root rest before (name, None) x y e refl here ∙ reached
-under_in-here rest before (name, Some z) x y e here reached =
-    under_in-through rest before (name, Some z) x z y e refl here ∙ ap (λ b. b || under_in before z y) reached
 
 -- of one list, what the truth value says, for all names
 abbrev AreDecided : Structures → Type 0

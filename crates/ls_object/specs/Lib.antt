@@ -10,3 +10,4 @@ pub mod Integers
 pub mod ObjectText
 pub mod Writing
 pub mod Stored
+pub mod steps
