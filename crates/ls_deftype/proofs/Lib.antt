@@ -1,0 +1,10 @@
+pub mod LambdaLemmas
+pub mod NameLemmas
+pub mod SizeLemmas
+pub mod CopyLemmas
+pub mod ArgumentLemmas
+pub mod MarkLemmas
+pub mod FillLemmas
+pub mod RepeatLemmas
+pub mod TurnLemmas
+pub mod PlaceLemmas

@@ -1,0 +1,11 @@
+pub mod Symbols
+pub mod Quoting
+pub mod Bodies
+pub mod LambdaLists
+pub mod Names
+pub mod Marks
+pub mod Templates
+pub mod Arguments
+pub mod Substitution
+pub mod Answers
+pub mod steps
