@@ -6,6 +6,7 @@ ghost use Rattle.ls_spec.specs.Fits.{Fits};
 ghost use Rattle.ls_lists.specs.Costs.{pair_cost, type_cost, upgrade_cost, upgrade_lists};
 ghost use Rattle.ls_cells.specs.Cells.{IsBuilt};
 ghost use Rattle.ls_cells.specs.Kept.{structures_in, entries_in, count_rows};
+ghost use Rattle.ls_structs.specs.Trees.{types};
 ghost use Rattle.ls_decide.specs.Answers.{IsRight, IsPlainAnswer, IsSure, IsUpgraded, TellsCost};
 ghost use Rattle.ls_decide.specs.Sessions.{decided_lists, Works, HasDone, HasUpgraded};
 
@@ -47,7 +48,7 @@ impl Model for Session {
 impl Session {
     /// A session over the structure types of the tree, for which no rows are kept.
     pub fn new(alloc: Global, tree: Tree) -> Result<Session, AllocError>
-        ensures { IfOk result (λ s. s ≡ (tree, ([], ([], [])))) }
+        ensures { IfOk result (λ s. s ≡ (types tree, ([], ([], [])))) }
     {
         let store = Store::new(alloc, tree.parents().copy()?);
         Ok(Session { alloc, store })
