@@ -1,1 +1,13 @@
 pub mod TopLemmas
+pub mod DefinitionLemmas
+pub mod CensusLemmas
+pub mod TableLemmas
+pub mod NumberLemmas
+pub mod StructureLemmas
+pub mod EnvLemmas
+pub mod WalkLemmas
+pub mod ReachLemmas
+pub mod PartLemmas
+pub mod HeldLemmas
+pub mod MentionLemmas
+pub mod FinishLemmas

@@ -1,4 +1,9 @@
 pub mod TopLevel
+pub mod Definitions
+pub mod Mentions
+pub mod Reaching
+pub mod Statuses
+pub mod StructureTypes
 pub mod Environments
 pub mod Naming
 pub mod Arguments

@@ -1,5 +1,5 @@
 -- The top-level forms of a file (3.2.3.1), and its queries.
-use Rattle.std.specs.Prelude.{ℕ, List, [], ◌∷◌, map, drop, codes, Option, Some, None, if◌then◌else◌}
+use Rattle.std.specs.Prelude.{ℕ, List, [], ◌∷◌, map, drop, codes, ◌||◌, Option, Some, None, if◌then◌else◌}
 use Rattle.std.specs.List.{flat_map}
 use Rattle.ls_object.specs.declared.symbol.Symbol.{Symbol}
 use Rattle.ls_object.specs.ObjectText.{is_text}
@@ -12,6 +12,14 @@ use Rattle.ls_env.specs.declared.query.QueryKind.{QueryKind}
 use Rattle.ls_env.specs.declared.query.QueryKind.TheVariants as query_kind
 use Rattle.ls_env.specs.declared.query.Query.{Query}
 
+-- the operators that define names of types
+abbrev pub defining_operator_named : List ℕ → Operator
+defining_operator_named name =
+    if is_text name (codes "DEFTYPE") then operator.Deftype
+    else (if is_text name (codes "DEFSTRUCT") then operator.Defstruct
+    else (if is_text name (codes "DEFCLASS") || is_text name (codes "DEFINE-CONDITION") then operator.Defclass
+    else operator.Other))
+
 -- what a name of the package COMMON-LISP means as an operator
 abbrev pub operator_named : List ℕ → Operator
 operator_named name =
@@ -19,7 +27,7 @@ operator_named name =
     else (if is_text name (codes "EVAL-WHEN") then operator.EvalWhen
     else (if is_text name (codes "SUBTYPEP") then operator.Subtypep
     else (if is_text name (codes "TYPEP") then operator.Typep
-    else operator.Other)))
+    else defining_operator_named name)))
 
 -- what a symbol means as an operator
 abbrev pub operator_of : Symbol → Operator

@@ -13,6 +13,10 @@ pub(crate) enum Operator {
     EvalWhen,
     Subtypep,
     Typep,
+    Deftype,
+    Defstruct,
+    /// DEFCLASS or DEFINE-CONDITION.
+    Defclass,
     Other,
 }
 
@@ -27,6 +31,20 @@ fn operator_named(name: &Text) -> Operator
         Operator::Subtypep
     } else if name.is_ascii_text("TYPEP") {
         Operator::Typep
+    } else {
+        defining_operator_named(name)
+    }
+}
+
+fn defining_operator_named(name: &Text) -> Operator
+    ensures { result ≡ spec.defining_operator_named name.now }
+{
+    if name.is_ascii_text("DEFTYPE") {
+        Operator::Deftype
+    } else if name.is_ascii_text("DEFSTRUCT") {
+        Operator::Defstruct
+    } else if name.is_ascii_text("DEFCLASS") || name.is_ascii_text("DEFINE-CONDITION") {
+        Operator::Defclass
     } else {
         Operator::Other
     }
