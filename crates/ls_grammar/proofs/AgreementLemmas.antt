@@ -10,7 +10,7 @@ use Rattle.ls_env.specs.Environments.{Environment}
 use Rattle.ls_grammar.specs.declared.refusal.RefusalKind.TheVariants as kind
 use Rattle.ls_grammar.specs.declared.refusal.Refusal.{Refusal}
 use Rattle.ls_grammar.specs.Numbers.{refusal}
-use Rattle.ls_grammar.specs.Levels.{Level, refused, known, object, members, all_of, some_of, none_of, pair_of, array_over}
+use Rattle.ls_grammar.specs.Levels.{Level, refused, known, object, members, all_of, some_of, none_of, pair_of, array_over, expanded}
 use Rattle.ls_grammar.specs.Saying.{level, weight_of}
 use Rattle.ls_grammar.specs.Denoting.{eql_of, conjunction, disjunction}
 use Rattle.ls_grammar.specs.steps.Running.{Outcome, next, enter, made, with_room, run_all, run_object, run_part, run_level, outcome}
@@ -148,6 +148,7 @@ follow_level f g h depth deep at (array_over d simple dims) room =
     let array : Specifier → Specifier = λ e. array_of e simple dims in
     follow_enter (own_visit at depth (array_over d simple dims)) (g d) room (λ k. next (made array) (f d k)) deep refl
     (λ k. follow_made (g d) k (f d k) array (h d k))
+follow_level f g h depth deep at (expanded d) room = follow_enter (own_visit at depth (expanded d)) (g d) room (f d) deep refl (h d)
 
 deep_past : (depth : ℕ) → depth ≡ 257 → nat_lt deepest depth ≡ true
 deep_past depth e = grind (arith, nat_tests)

@@ -2,7 +2,7 @@
 use Rattle.std.proofs.Common.{◌≡◌, ℕ, suc, ◌+◌, ◌≤◌, List, [], ◌∷◌, Result, Ok, Err, arith, rules, lit≤}
 use Rattle.std.specs.Prelude.{IfOk}
 use Rattle.std.specs.List.{AllByRecursion}
-use Rattle.ls_object.specs.Universe.{Structures}
+use Rattle.ls_object.specs.Universe.{Structures, IsStructureOf}
 use Rattle.ls_reader.specs.declared.datum.Span.{Span}
 use Rattle.ls_reader.specs.declared.datum.Datum.{Datum}
 use Rattle.ls_tables.specs.declared.name.Builtin.{Builtin}
@@ -12,7 +12,8 @@ use Rattle.ls_spec.specs.Specifier.{Specifier, Specifiers}
 use Rattle.ls_spec.specs.Meaning.{specifier, specifiers_of}
 use Rattle.ls_spec.specs.Builtins.{expansion}
 use Rattle.ls_spec.specs.Fits.{HasSmallNumbers, HaveSmallNumbers, HasKnownNames, HaveKnownNames, depth, greatest_depth, Fits}
-use Rattle.ls_env.specs.Environments.{Environment}
+use Rattle.ls_env.specs.Environments.{Environment, structures_of}
+use Rattle.ls_env.proofs.StructureLemmas.{named_is_type}
 use Rattle.ls_grammar.specs.declared.refusal.Stop.{Stop}
 use Rattle.ls_grammar.specs.BuiltinLevels.{built_atom}
 use Rattle.ls_grammar.specs.steps.Answering.{Steps}
@@ -52,8 +53,9 @@ module _ (structures : Structures) where
   fit_atom n at b = deeper n b
 
   -- the levels keep specifiers within the limits
-  kept : IsKept IsFitIn
+  kept : IsKept (IsStructureOf structures) IsFitIn
   kept = record {
+    structure = λ n s h. (h, tt, omega arith);
     range = λ n k lo hi l h. (tt, (l, h), omega arith);
     atom = fit_atom;
     array = λ n simple dims h. (tt, h, omega arith);
@@ -66,12 +68,17 @@ module _ (structures : Structures) where
     any = λ n. (tt, tt, omega arith);
     pair = λ n a b g h. ((g.0, h.0), (g.1, h.1), omega (arith, g.2, h.2));
     element = λ n e simple dims small h. (h.0, (h.1, small), omega (arith, h.2));
+    deeper = λ n s h. (h.0, h.1, omega (arith, h.2));
   }
 
-  fit_whole : (env : Environment) (d : Datum) (x : Specifier × ℕ) → whole_outcome env d ≡ Ok x → Fits structures x.0
-  fit_whole env d x e = let fit = kept_in IsFitIn kept env 256 d x.0 (denotes_in env d x e) in (fit.0, (fit.1, omega (arith, fit.2)))
+fit_whole : (env : Environment) (d : Datum) (x : Specifier × ℕ) → whole_outcome env d ≡ Ok x → Fits (structures_of env) x.0
+fit_whole env d x e =
+    let structures = structures_of env in
+    let fit = kept_in (IsStructureOf structures) (IsFitIn structures) (kept structures) env (named_is_type env) 256 d x.0 (denotes_in env d x e) in
+    (fit.0, (fit.1, omega (arith, fit.2)))
 
-  -- a specifier that is answered fits
-  pub fits_of : (env : Environment) (d : Datum) (r : Result Spec Stop) (left : ℕ) → Steps specifier r left (whole_outcome env d) → IfOk r (λ s. Fits structures (specifier s))
-  fits_of env d (Ok s) left h = fit_whole env d (specifier s, left) h
-  fits_of env d (Err e) left h = tt
+-- a specifier that is answered fits
+pub fits_of : (env : Environment) (d : Datum) (r : Result Spec Stop) (left : ℕ) → Steps specifier r left (whole_outcome env d)
+    → IfOk r (λ s. Fits (structures_of env) (specifier s))
+fits_of env d (Ok s) left h = fit_whole env d (specifier s, left) h
+fits_of env d (Err e) left h = tt

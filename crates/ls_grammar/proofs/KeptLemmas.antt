@@ -1,8 +1,8 @@
 -- A property of specifiers that ranges, built-in names, arrays, strings, objects, AND, OR, NOT and CONS keep holds of
 -- all that data denote.
 use Rattle.std.proofs.Common.{ℕ, ℤ, pos, zero, suc, ◌-◌, ◌-ℤ◌, ◌≤◌, ◌^◌, List, [], ◌∷◌, length, Result, Ok, Err, arith, lit≤}
-use Rattle.std.proofs.Common.{subst, sym}
-use Rattle.std.specs.Prelude.{nat_le, neg_ℤ, unsigned_abs, if◌then◌else◌, Bool, true, false, Option, Some, None, IfOk, IfSome}
+use Rattle.std.proofs.Common.{◌≡◌, refl, subst, sym}
+use Rattle.std.specs.Prelude.{nat_le, slice_get, neg_ℤ, unsigned_abs, if◌then◌else◌, Bool, true, false, Option, Some, None, IfOk, IfSome}
 use Rattle.std.specs.List.{AllByRecursion, list_all}
 use Rattle.std.proofs.lemmas.Bool.{cond_both}
 use Rattle.std.proofs.lemmas.Int.{ints}
@@ -23,21 +23,27 @@ use Rattle.ls_spec.specs.declared.spec.Bound.{Bound}
 use Rattle.ls_spec.specs.declared.spec.Bound.TheVariants.{Free, Incl}
 use Rattle.ls_spec.specs.declared.spec.DimPattern.{DimPattern}
 use Rattle.ls_spec.specs.declared.spec.DimPattern.TheVariants as dimensions
-use Rattle.ls_spec.specs.Specifier.{Specifier, all_objects, not_of, eql_to, range_of, array_any, array_of, string_of, cons_of}
+use Rattle.ls_spec.specs.Specifier.{Specifier, all_objects, not_of, eql_to, range_of, structure_under, array_any, array_of, string_of, cons_of}
 use Rattle.ls_spec.specs.Builtins.{expansion}
 use Rattle.ls_spec.specs.Fits.{IsSmall, IsSmallBound, IsSmallPoint, IsSmallPlace, AreSmallDimensions}
+use Rattle.ls_deftype.specs.Templates.{Definition}
+use Rattle.ls_deftype.specs.Arguments.{takes}
+use Rattle.ls_deftype.specs.Substitution.{substituted}
+use Rattle.ls_env.specs.declared.status.NameStatus.{NameStatus}
+use Rattle.ls_env.specs.declared.status.NameStatus.TheVariants as status
 use Rattle.ls_env.specs.Environments.{Environment}
+use Rattle.ls_env.specs.Naming.{quote_symbol, status_of}
 use Rattle.ls_grammar.specs.declared.refusal.Refusal.{Refusal}
 use Rattle.ls_grammar.specs.declared.refusal.RefusalKind.{RefusalKind}
 use Rattle.ls_grammar.specs.declared.refusal.RefusalKind.TheVariants as kind
 use Rattle.ls_grammar.specs.Numbers.{refusal, written, whole, is_star, bound_of, size_of, bits_of}
-use Rattle.ls_grammar.specs.Levels.{Level, refused, known, object, members, all_of, some_of, none_of, pair_of, array_over, bad_argument}
+use Rattle.ls_grammar.specs.Levels.{Level, refused, known, object, members, all_of, some_of, none_of, pair_of, array_over, expanded, bad_argument}
 use Rattle.ls_grammar.specs.Levels.{range, range_level, from_to, below, signed_bytes, unsigned_bytes, sized, mod_level}
 use Rattle.ls_grammar.specs.Levels.{signed_level, unsigned_level, starred_level, not_level, eql_level, part_of, cons_level}
 use Rattle.ls_grammar.specs.Dimensions.{place_of, dimensions_of, one_place}
 use Rattle.ls_grammar.specs.ArrayLevels.{elements, arrays, array_level, vector_with, vector_level, of_length, length_level, vectors_over}
 use Rattle.ls_grammar.specs.BuiltinLevels.{built_atom, built_list}
-use Rattle.ls_grammar.specs.Saying.{atom_level, list_level, head_level, items_level, form_level, level}
+use Rattle.ls_grammar.specs.Saying.{use_of, use_by, level_by, atom_by, own_level, atom_level, list_level, head_level, items_level, form_level, level}
 use Rattle.ls_grammar.specs.Denoting.{object_form, number_point, conjunction, disjunction, Each, IsEql, SaysPart, Says, DenotesIn}
 use Rattle.ls_grammar.proofs.NumberLemmas.{small_power, small_whole, small_written}
 use Rattle.ls_grammar.proofs.BoundLemmas.{IsAtMost, of_bound, of_size, of_bits}
@@ -51,7 +57,8 @@ OfKnown Q _ = Unit {0}
 
 -- ---- one level
 
-module _ (Q : Specifier → Type 0)
+module _ (Q : Specifier → Type 0) (env : Environment)
+    (on_structure : (s : Symbol) → status_of env s ≡ status.Structure → Q (structure_under s))
     (on_range : (k : RangeKind) (lo hi : Bound) → IsSmallBound lo → IsSmallBound hi → Q (range_of k lo hi))
     (on_atom : (at : Span) (b : Builtin) → OfKnown Q (built_atom at b))
     (on_array : (simple : Bool) (dims : DimPattern) → AreSmallDimensions dims → Q (array_any simple dims))
@@ -201,35 +208,59 @@ module _ (Q : Specifier → Type 0)
   of_built_list at args name.SimpleString = of_string_level true at args
   of_built_list at args _ = tt
 
-  of_head : (env : Environment) (at : Span) (s : Symbol) (args : List Datum) (b : Option Builtin) → OfKnown Q (list_level env at s args b)
-  of_head env at s args None = tt
-  of_head env at s args (Some b) = of_built_list at args b
+  -- a name of the file shows no specifier by itself
+  of_use : (at : Span) (args : List Datum) (t : Definition) → OfKnown Q (use_of t at args)
+  of_use at args t =
+      cond_both (takes t (length args)) (expanded (substituted t at args)) (refused (refusal kind.ArgumentCount at)) (OfKnown Q) (λ e. tt) (λ e. tt)
 
-  of_atom : (env : Environment) (at : Span) (s : Symbol) (b : Option Builtin) → OfKnown Q (atom_level env at s b)
-  of_atom env at s None = tt
-  of_atom env at s (Some b) = on_atom at b
+  of_use_by : (at : Span) (args : List Datum) (t : Option Definition) → OfKnown Q (use_by t at args)
+  of_use_by at args None = tt
+  of_use_by at args (Some t) = of_use at args t
 
-  of_items : (env : Environment) (at : Span) (args : List Datum) (f : Form-F Form Datum) → OfKnown Q (head_level env at args f)
-  of_items env at args (Form-F.Symbol s) = of_head env at s args (builtin_of s)
-  of_items env at args _ = tt
+  of_status : (at : Span) (args : List Datum) (s : NameStatus) → OfKnown Q (level_by env s at args)
+  of_status at args (status.Deftype n) = of_use_by at args (slice_get env.templates n)
+  of_status at args _ = tt
 
-  of_list : (env : Environment) (at : Span) (items : List Datum) → OfKnown Q (items_level env at items)
-  of_list env at [] = tt
-  of_list env at (head ∷ args) = of_items env at args (out-Form head.form)
+  of_own : (at : Span) (s : Symbol) (args : List Datum) → OfKnown Q (own_level env at s args)
+  of_own at s args = of_status at args (status_of env s)
 
-  of_form : (env : Environment) (at : Span) (f : Form-F Form Datum) → OfKnown Q (form_level env at f)
-  of_form env at (Form-F.Symbol s) = of_atom env at s (builtin_of s)
-  of_form env at (Form-F.List items) = of_list env at items
-  of_form env at _ = tt
+  -- but a structure type does
+  of_own_atom : (at : Span) (s : Symbol) (x : NameStatus) → status_of env s ≡ x → OfKnown Q (atom_by env s x at)
+  of_own_atom at s status.Structure e = on_structure s e
+  of_own_atom at s (status.Deftype n) e = of_use_by at [] (slice_get env.templates n)
+  of_own_atom at s _ e = tt
+
+  of_head : (at : Span) (s : Symbol) (args : List Datum) (b : Option Builtin) → OfKnown Q (list_level env at s args b)
+  of_head at s args None = of_own at s args
+  of_head at s args (Some b) = of_built_list at args b
+
+  of_atom : (at : Span) (s : Symbol) (b : Option Builtin) → OfKnown Q (atom_level env at s b)
+  of_atom at s None = of_own_atom at s (status_of env s) refl
+  of_atom at s (Some b) = on_atom at b
+
+  of_items : (at : Span) (args : List Datum) (f : Form-F Form Datum) → OfKnown Q (head_level env at args f)
+  of_items at args (Form-F.Symbol s) = of_head at s args (builtin_of s)
+  of_items at args _ = tt
+
+  of_list : (at : Span) (items : List Datum) → OfKnown Q (items_level env at items)
+  of_list at [] = tt
+  of_list at (head ∷ args) = of_items at args (out-Form head.form)
+
+  of_form : (at : Span) (f : Form-F Form Datum) → OfKnown Q (form_level env at f)
+  of_form at (Form-F.Symbol s) = of_atom at s (builtin_of s)
+  of_form at (Form-F.List items) = of_list at items
+  of_form at (Form-F.Quote d) = of_own at quote_symbol (d ∷ [])
+  of_form at _ = tt
 
   -- the specifier that a datum shows by itself has the property
-  of_level : (env : Environment) (d : Datum) → OfKnown Q (level env d)
-  of_level env d = of_form env d.span (out-Form d.form)
+  of_level : (d : Datum) → OfKnown Q (level env d)
+  of_level d = of_form d.span (out-Form d.form)
 
 -- ---- all levels
 
--- P n holds of what is denoted by n levels
-pub record IsKept (P : ℕ → Specifier → Type 0) : Type 0 where
+-- P n holds of what is denoted by n levels, where the structure types that are named have the property N
+pub record IsKept (N : Symbol → Type 0) (P : ℕ → Specifier → Type 0) : Type 0 where
+  pub structure : (n : ℕ) (s : Symbol) → N s → P (suc n) (structure_under s)
   pub range : (n : ℕ) (k : RangeKind) (lo hi : Bound) → IsSmallBound lo → IsSmallBound hi → P (suc n) (range_of k lo hi)
   pub atom : (n : ℕ) (at : Span) (b : Builtin) → OfKnown (P (suc n)) (built_atom at b)
   pub array : (n : ℕ) (simple : Bool) (dims : DimPattern) → AreSmallDimensions dims → P (suc n) (array_any simple dims)
@@ -242,8 +273,9 @@ pub record IsKept (P : ℕ → Specifier → Type 0) : Type 0 where
   pub any : (n : ℕ) → P n all_objects
   pub pair : (n : ℕ) (a b : Specifier) → P n a → P n b → P (suc n) (cons_of a b)
   pub element : (n : ℕ) (e : Specifier) (simple : Bool) (dims : DimPattern) → AreSmallDimensions dims → P n e → P (suc n) (array_of e simple dims)
+  pub deeper : (n : ℕ) (s : Specifier) → P n s → P (suc n) s
 
-module _ (P : ℕ → Specifier → Type 0) (kept : IsKept P) where
+module _ (N : Symbol → Type 0) (P : ℕ → Specifier → Type 0) (kept : IsKept N P) where
   of_number : (n : ℕ) (at : Span) (o : Option Rat) → IfSome o IsSmall → IfOk (number_point at o) (P n)
   of_number n at None h = tt
   of_number n at (Some r) h = kept.point n (point.Number r) h
@@ -281,9 +313,12 @@ module _ (P : ℕ → Specifier → Type 0) (kept : IsKept P) where
   of_says n R h (pair_of car cdr) s shown says =
       subst (P (suc n)) (sym says.2) (kept.pair n says.0 says.1 (of_part n R h car says.0 says.3) (of_part n R h cdr says.1 says.4))
   of_says n R h (array_over d simple dims) s shown says = subst (P (suc n)) (sym says.1) (kept.element n says.0 simple dims shown (h d says.0 says.2))
+  of_says n R h (expanded d) s shown says = kept.deeper n s (h d s says)
 
   -- what the levels keep holds of each specifier that a datum denotes
-  pub kept_in : (env : Environment) (n : ℕ) (d : Datum) (s : Specifier) → DenotesIn env n d s → P n s
-  kept_in env zero d s h = absurd h
-  kept_in env (suc n) d s h =
-      of_says n (DenotesIn env n) (kept_in env n) (level env d) s (of_level (P (suc n)) (kept.range n) (kept.atom n) (kept.array n) (kept.vector n) (kept.string n) env d) h
+  pub kept_in : (env : Environment) → ((s : Symbol) → status_of env s ≡ status.Structure → N s)
+      → (n : ℕ) (d : Datum) (s : Specifier) → DenotesIn env n d s → P n s
+  kept_in env named zero d s h = absurd h
+  kept_in env named (suc n) d s h =
+      of_says n (DenotesIn env n) (kept_in env named n) (level env d) s
+      (of_level (P (suc n)) env (λ x e. kept.structure n x (named x e)) (kept.range n) (kept.atom n) (kept.array n) (kept.vector n) (kept.string n) d) h

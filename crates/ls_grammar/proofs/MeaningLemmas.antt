@@ -9,7 +9,7 @@ use Rattle.ls_env.specs.Environments.{Environment}
 use Rattle.ls_grammar.specs.declared.refusal.RefusalKind.TheVariants as kind
 use Rattle.ls_grammar.specs.declared.refusal.Refusal.{Refusal}
 use Rattle.ls_grammar.specs.Numbers.{refusal}
-use Rattle.ls_grammar.specs.Levels.{Level, refused, known, object, members, all_of, some_of, none_of, pair_of, array_over}
+use Rattle.ls_grammar.specs.Levels.{Level, refused, known, object, members, all_of, some_of, none_of, pair_of, array_over, expanded}
 use Rattle.ls_grammar.specs.Saying.{level, weight_of}
 use Rattle.ls_grammar.specs.Denoting.{eql_of, conjunction, disjunction, Each, IsEql, SaysPart, Says, DenotesIn, Denotes}
 use Rattle.ls_grammar.specs.steps.Running.{Outcome, next, enter, made, with_room, run_all, run_object, run_part, run_level, outcome}
@@ -62,6 +62,7 @@ means_level P f h (pair_of car cdr) room =
     (λ b j q. (a, b, refl, p, q)))
 means_level P f h (array_over d simple dims) room =
     means_next (P d) (Says P (array_over d simple dims)) (made (λ e. array_of e simple dims)) (f d room) (h d room) (λ e k p. (e, refl, p))
+means_level P f h (expanded d) room = h d room
 
 -- the specifier of an outcome is denoted within as many levels
 pub means_outcome : (env : Environment) (left : ℕ) (d : Datum) (room : ℕ) → Means (DenotesIn env left d) (outcome env left d room)
@@ -100,6 +101,7 @@ same_says P Q h (pair_of car cdr) s t p q =
     let cdrs = same_part P Q h cdr p.1 q.1 p.4 q.4 in
     p.2 ∙ (λ i. cons_of (cars i) (cdrs i)) ∙ sym q.2
 same_says P Q h (array_over d simple dims) s t p q = p.1 ∙ ap (λ (e : Specifier). array_of e simple dims) (h d p.0 q.0 p.2 q.2) ∙ sym q.1
+same_says P Q h (expanded d) s t p q = h d s t p q
 
 same_in : (env : Environment) (n m : ℕ) (d : Datum) (s t : Specifier) → DenotesIn env n d s → DenotesIn env m d t → s ≡ t
 same_in env zero m d s t p q = absurd p
@@ -132,6 +134,7 @@ wide_says P Q h (some_of ds) s p = (p.0, p.1, wide_each P Q h ds p.0 p.2)
 wide_says P Q h (none_of d) s p = (p.0, p.1, h d p.0 p.2)
 wide_says P Q h (pair_of car cdr) s p = (p.0, p.1, p.2, wide_part P Q h car p.0 p.3, wide_part P Q h cdr p.1 p.4)
 wide_says P Q h (array_over d simple dims) s p = (p.0, p.1, h d p.0 p.2)
+wide_says P Q h (expanded d) s p = h d s p
 
 least_in : (env : Environment) (R : Datum → Specifier → Type 0) → ((d : Datum) (s : Specifier) → Says R (level env d) s → R d s) → (n : ℕ) (d : Datum) (s : Specifier) → DenotesIn env n d s → R d s
 least_in env R closed zero d s p = absurd p
@@ -178,6 +181,7 @@ closed_in env (pair_of car cdr) s p =
     let second = wide_part (DenotesIn env r.0) (DenotesIn env (q.0 + r.0)) (more_left env r.0 q.0) cdr p.1 r.1 in
     (q.0 + r.0, (p.0, p.1, p.2, first, second))
 closed_in env (array_over d simple dims) s p = (p.2.0, (p.0, p.1, p.2.1))
+closed_in env (expanded d) s p = p
 
 -- the relation keeps to the levels itself
 pub denotes_closed : (env : Environment) (d : Datum) (s : Specifier) → Says (Denotes env) (level env d) s → Denotes env d s

@@ -12,7 +12,7 @@ use Rattle.ls_env.specs.Environments.{Environment}
 use Rattle.ls_grammar.specs.declared.refusal.RefusalKind.TheVariants as kind
 use Rattle.ls_grammar.specs.declared.refusal.Refusal.{Refusal}
 use Rattle.ls_grammar.specs.Numbers.{refusal, too_wide, written}
-use Rattle.ls_grammar.specs.Levels.{Level, refused, known, object, members, all_of, some_of, none_of, pair_of, array_over}
+use Rattle.ls_grammar.specs.Levels.{Level, refused, known, object, members, all_of, some_of, none_of, pair_of, array_over, expanded}
 use Rattle.ls_grammar.specs.Saying.{level}
 
 -- ---- the objects of MEMBER and EQL
@@ -64,6 +64,7 @@ Says P (some_of ds) s = (ss : List Specifier) × (s ≡ disjunction ss) × Each 
 Says P (none_of d) s = (t : Specifier) × (s ≡ not_of t) × P d t
 Says P (pair_of car cdr) s = (a : Specifier) × (b : Specifier) × (s ≡ cons_of a b) × SaysPart P car a × SaysPart P cdr b
 Says P (array_over d simple dims) s = (e : Specifier) × (s ≡ array_of e simple dims) × P d e
+Says P (expanded d) s = P d s
 
 abbrev pub DenotesIn : Environment → ℕ → Datum → Specifier → Type 0
 DenotesIn env zero d s = ⊥

@@ -33,6 +33,8 @@ pub data Level : Type 0 where
   pair_of : Option Datum → Option Datum → Level
   -- ARRAY or SIMPLE-ARRAY, the latter where the flag is set, of an element type
   array_over : Datum → Bool → DimPattern → Level
+  -- a use of a DEFTYPE, with its expansion
+  expanded : Datum → Level
 
 abbrev pub bad_argument : Span → Level
 bad_argument at = refused (refusal kind.BadArgument at)

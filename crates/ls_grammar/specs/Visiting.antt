@@ -13,7 +13,7 @@ use Rattle.ls_grammar.specs.declared.refusal.Refusal.{Refusal}
 use Rattle.ls_grammar.specs.declared.refusal.Stop.{Stop}
 use Rattle.ls_grammar.specs.declared.refusal.Stop.TheVariants as stop
 use Rattle.ls_grammar.specs.Numbers.{refusal}
-use Rattle.ls_grammar.specs.Levels.{Level, refused, known, object, members, all_of, some_of, none_of, pair_of, array_over}
+use Rattle.ls_grammar.specs.Levels.{Level, refused, known, object, members, all_of, some_of, none_of, pair_of, array_over, expanded}
 use Rattle.ls_grammar.specs.Saying.{level, weight_of}
 use Rattle.ls_grammar.specs.Denoting.{eql_of, Denotes}
 
@@ -54,8 +54,8 @@ abbrev pub part_visits : (Datum → List Visit) → Option Datum → List Visit
 part_visits visits_of None = []
 part_visits visits_of (Some d) = visits_of d
 
--- what is visited below one level: the objects of MEMBER and EQL at its own depth, and the parts of specifiers by
--- `visits_of`
+-- what is visited below one level: the objects of MEMBER and EQL at its own depth, and the parts of specifiers and
+-- the expansions of uses by `visits_of`
 abbrev pub below : (Datum → List Visit) → ℕ → Level → List Visit
 below visits_of depth (refused x) = []
 below visits_of depth (known s) = []
@@ -66,6 +66,7 @@ below visits_of depth (some_of ds) = flat_map visits_of ds
 below visits_of depth (none_of d) = visits_of d
 below visits_of depth (pair_of car cdr) = part_visits visits_of car ++ part_visits visits_of cdr
 below visits_of depth (array_over d simple dims) = visits_of d
+below visits_of depth (expanded d) = visits_of d
 
 -- The visits of a datum at a depth, first its own, then those of its arguments from left to right. `left` levels are
 -- left; a datum past the last of them is not looked at.

@@ -7,7 +7,6 @@ ghost use Rattle.ls_spec.specs.Meaning.{specifier};
 ghost use Rattle.ls_spec.specs.Specifier.{string_of};
 ghost use Rattle.ls_grammar.specs.Levels as spec;
 ghost use Rattle.ls_grammar.specs.ArrayLevels as array_spec;
-ghost use Rattle.ls_grammar.specs.Saying.{weight_of};
 ghost use Rattle.ls_grammar.specs.Numbers.{whole, is_star, refusal, IsSizeWithin};
 ghost use Rattle.ls_spec.specs.declared.spec.Bound.TheVariants.{Incl};
 ghost use Rattle.ls_grammar.specs.steps.Answering.{lent, shown, IsExpandable};
@@ -15,7 +14,8 @@ ghost use Rattle.ls_grammar.specs.steps.Answering.{lent, shown, IsExpandable};
 use crate::array::{Dims, place_of};
 use crate::number::{bits_of, bound_of, is_star, refusal, size_of};
 use crate::refusal::{Refusal, RefusalKind};
-use ls_object::Rat;
+use ls_deftype::Template;
+use ls_object::{Rat, Symbol};
 use ls_reader::{Datum, Span};
 use ls_spec::{Bound, RangeKind, Spec};
 use ls_tables::Builtin;
@@ -38,6 +38,8 @@ pub(crate) enum Level<'a> {
     Known(Spec),
     /// A built-in name that is a specifier by itself.
     Named(Builtin),
+    /// A structure type of the file.
+    Structure(&'a Symbol),
     /// EQL of an object.
     Object(&'a Datum),
     /// MEMBER of objects.
@@ -52,6 +54,8 @@ pub(crate) enum Level<'a> {
     ArrayOf(Part<'a>, bool, Dims<'a>),
     /// Vectors, simple ones where the flag is set, with the element type of a name, of a length or of any.
     VectorsOver(Builtin, bool, Option<u64>),
+    /// A use of a DEFTYPE at a place, with arguments.
+    Use(&'a Template, Span, &'a [Datum]),
 }
 
 pub(crate) fn refused(kind: RefusalKind, at: Span) -> Level<'static>
@@ -350,19 +354,5 @@ pub(crate) fn string_level(simple: bool, at: Span, args: &[Datum]) -> Level<'sta
             Ok(length) => strings(simple, length),
         },
         _ => refused(RefusalKind::BadArgument, at),
-    }
-}
-
-impl Level<'_> {
-    /// The room that the level takes by itself.
-    pub(crate) fn weight(&self) -> u64
-        ensures { result ≡ weight_of (shown self.now) }
-    {
-        match self {
-            Level::Refused(_) | Level::Known(_) | Level::Named(_) => 1,
-            Level::Object(_) | Level::Members(_) => 1,
-            Level::AllOf(_) | Level::SomeOf(_) | Level::NoneOf(_) | Level::ConsOf(_, _) => 1,
-            Level::ArrayOf(_, _, _) | Level::VectorsOver(_, _, _) => 1,
-        }
     }
 }

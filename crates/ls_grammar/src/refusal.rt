@@ -5,6 +5,27 @@ use thiserror::Error;
 /// What is wrong with a datum as a type specifier.
 #[derive(Clone, Copy, Debug, PartialEq, Eq, Error)]
 pub enum RefusalKind {
+    /// The name is neither built in nor defined.
+    #[error("no type has this name")]
+    UnknownType,
+    /// A DEFCLASS or DEFINE-CONDITION defines the name.
+    #[error("types of classes and conditions are not supported")]
+    ClassType,
+    /// Two or more forms define the name.
+    #[error("the name is defined more than once")]
+    NameTwice,
+    /// The DEFTYPE of the name leads back to it.
+    #[error("recursive types are not supported")]
+    RecursiveType,
+    /// The DEFTYPE of the name has a body that is no quoted or backquoted data.
+    #[error("the definition of the type computes")]
+    CodeBody,
+    /// The DEFTYPE of the name has a lambda list that is not supported.
+    #[error("the definition of the type is not supported")]
+    BadDefinition,
+    /// A use of a DEFTYPE has a wrong count of arguments.
+    #[error("the count of arguments is wrong")]
+    ArgumentCount,
     /// A float name or REAL has an argument other than `*`.
     #[error("ranges of floats and of reals are not supported")]
     FloatRange,

@@ -2,15 +2,17 @@
 
 ghost use Rattle.std.specs.Prelude.{◌≡◌, map, Some, IfOk, IfErr};
 ghost use Rattle.ls_reader.specs.declared.datum.Datum.{Datum};
-ghost use Rattle.ls_env.specs.Environments.{Environment};
+ghost use Rattle.ls_deftype.specs.Templates.{definition_of};
+ghost use Rattle.ls_env.specs.Environments.{Environment, structures_of};
 ghost use Rattle.ls_spec.specs.Specifier.{Specifier, eql_to};
 ghost use Rattle.ls_spec.specs.Meaning.{specifier};
 ghost use Rattle.ls_spec.specs.Fits.{Fits};
 ghost use Rattle.ls_grammar.specs.declared.refusal.Refusal.{Refusal};
 ghost use Rattle.ls_grammar.specs.Denoting.{eql_of, number_point};
 ghost use Rattle.ls_grammar.specs.ArrayLevels.{elements};
+ghost use Rattle.ls_grammar.specs.Saying.{use_of};
 ghost use Rattle.ls_grammar.specs.steps.Answering.{lent, shown, IsExpandable, Steps, Gives, stopped};
-ghost use Rattle.ls_grammar.specs.steps.Running.{run_object, run_all, run_part, run_pair, run_level, outcome};
+ghost use Rattle.ls_grammar.specs.steps.Running.{run_object, run_all, run_part, run_pair, run_level, run_entered, outcome};
 ghost use Rattle.ls_grammar.specs.Visiting.{Resolves, IsReason, AnswersWith, RefusesWith, ResolvesOrIsRefused, refusal_of};
 
 use crate::array::{array_over, pattern, vectors_over};
@@ -18,6 +20,7 @@ use crate::level::{Level, Part};
 use crate::number::{refusal, written};
 use crate::refusal::{Refusal, RefusalKind, Stop};
 use crate::saying::level_of;
+use ls_deftype::{SubstituteFault, Template};
 use ls_env::Env;
 use ls_object::{Boxed, Items, Rat};
 use ls_reader::{Datum, Form, Span};
@@ -155,17 +158,19 @@ fn resolve_array(
 fn resolve_at(
     alloc: Global,
     env: &Env,
+    at: Span,
     level: Level<'_>,
     left: u32,
     room: &mut u64,
 ) -> Result<Spec, Stop>
     requires { IsExpandable level }
-    ensures { Steps specifier result room.new (run_level (outcome env.now left) (shown level.entry) room.old) }
+    ensures { Steps specifier result room.new (run_entered (outcome env.now left) at (shown level.entry) room.old) }
 {
     match level {
         Level::Refused(why) => Err(Stop::Refused(why)),
         Level::Known(spec) => Ok(spec),
         Level::Named(name) => Ok(of_builtin(alloc, name)?),
+        Level::Structure(name) => Ok(Spec::StructIs(name.copy()?)),
         Level::Object(object) => resolve_object(object, room),
         Level::Members(objects) => Ok(Spec::Or(resolve_objects(alloc, objects, room)?)),
         Level::AllOf(parts) => Ok(Spec::And(resolve_all(alloc, env, parts, left, room)?)),
@@ -180,6 +185,33 @@ fn resolve_at(
             resolve_array(alloc, env, element, simple, dims, left, room)
         }
         Level::VectorsOver(name, simple, length) => Ok(vectors_over(alloc, name, simple, length)?),
+        Level::Use(template, place, args) => resolve_use(
+            alloc, env, at, template, place, args, left, room,
+        ),
+    }
+}
+
+/// A use of a DEFTYPE: its expansion, whose size is taken from the room, as a datum one level deeper.
+#[cycle(resolve)]
+#[tactic(auto, using(crate::proofs::OutcomeLemmas::use_miscounted, crate::proofs::OutcomeLemmas::use_over))]
+fn resolve_use(
+    alloc: Global,
+    env: &Env,
+    at: Span,
+    template: &Template,
+    place: Span,
+    args: &[Datum],
+    left: u32,
+    room: &mut u64,
+) -> Result<Spec, Stop>
+    ensures { Steps specifier result room.new
+        (run_entered (outcome env.now left) at (use_of (definition_of template.now) place args.now) room.old) }
+{
+    match template.expand(alloc, place, args, room) {
+        Ok(expansion) => resolve_in(alloc, env, &expansion, left, room),
+        Err(SubstituteFault::ArgumentCount) => Err(stopped(RefusalKind::ArgumentCount, place)),
+        Err(SubstituteFault::TooManyNodes) => Err(stopped(RefusalKind::TooManyNodes, at)),
+        Err(SubstituteFault::Memory) => Err(Stop::Memory),
     }
 }
 
@@ -197,13 +229,11 @@ fn resolve_in(
     if left == 0 {
         return Err(stopped(RefusalKind::TooDeep, datum.span));
     }
-    let level = level_of(env, datum);
-    let weight = level.weight();
-    if *room < weight {
+    if *room == 0 {
         return Err(stopped(RefusalKind::TooManyNodes, datum.span));
     }
-    *room -= weight;
-    resolve_at(alloc, env, level, left - 1, room)
+    *room -= 1;
+    resolve_at(alloc, env, datum.span, level_of(env, datum), left - 1, room)
 }
 
 /// Each datum resolves, under each environment, or has a refusal. The body is empty, since this is a law.
@@ -218,7 +248,7 @@ pub fn resolve(alloc: Global, env: &Env, datum: &Datum) -> Result<Spec, Stop>
     ensures err { IfErr result (IsReason env.now datum.now) }
     ensures answers { (s : Specifier) → Resolves env.now datum.now s → AnswersWith s result }
     ensures refuses { (x : Refusal) → refusal_of env.now datum.now ≡ Some x → RefusesWith x result }
-    ensures fits { IfOk result (λ s. Fits env.now.structures (specifier s)) }
+    ensures fits { IfOk result (λ s. Fits (structures_of env.now) (specifier s)) }
 {
     let mut room = ROOM;
     resolve_in(alloc, env, datum, DEEPEST, &mut room)

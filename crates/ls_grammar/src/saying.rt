@@ -1,8 +1,9 @@
 // What a datum says as a specifier, by its head.
 
 ghost use Rattle.std.specs.Prelude.{◌≡◌, [], ◌∷◌};
+ghost use Rattle.ls_object.specs.declared.symbol.Symbol.{Symbol};
 ghost use Rattle.ls_tables.specs.Builtins.{builtin_of};
-ghost use Rattle.ls_env.specs.Naming.{quote_symbol};
+ghost use Rattle.ls_env.specs.Naming.{quote_symbol, status_of};
 ghost use Rattle.ls_grammar.specs.BuiltinLevels.{built_atom, built_list};
 ghost use Rattle.ls_grammar.specs.Saying as spec;
 ghost use Rattle.ls_grammar.specs.steps.Answering.{shown, IsExpandable};
@@ -75,45 +76,65 @@ fn built_atom(at: Span, name: Builtin) -> Level<'static>
 }
 
 /// A name of which the file says this.
-fn level_by(status: NameStatus, at: Span, _args: &[Datum]) -> Level<'_>
-    ensures value { shown result ≡ spec.level_by status at _args.now }
+fn level_by<'a>(env: &'a Env, status: NameStatus, at: Span, args: &'a [Datum]) -> Level<'a>
+    requires { (name : Symbol) × (status_of env.now name ≡ status) }
+    ensures value { shown result ≡ spec.level_by env.entry.now status at args.entry.now }
     ensures expandable { IsExpandable result }
 {
     match status {
-        NameStatus::Unknown => refused(RefusalKind::NotBuilt, at),
+        NameStatus::Unknown => refused(RefusalKind::UnknownType, at),
+        NameStatus::Deftype(number) => Level::Use(env.template(number), at, args),
+        NameStatus::Structure => refused(RefusalKind::BadArgument, at),
+        NameStatus::Typed => refused(RefusalKind::UnknownType, at),
+        NameStatus::Class => refused(RefusalKind::ClassType, at),
+        NameStatus::Twice => refused(RefusalKind::NameTwice, at),
+        NameStatus::CodeBody => refused(RefusalKind::CodeBody, at),
+        NameStatus::BadDefinition => refused(RefusalKind::BadDefinition, at),
+        NameStatus::Recursive => refused(RefusalKind::RecursiveType, at),
     }
 }
 
 /// The list that `'x` stands for, of QUOTE and x.
-fn quote_level<'a>(env: &Env, at: Span, quoted: &'a Datum) -> Level<'a>
-    ensures value { shown result ≡ spec.own_level env.now at quote_symbol (quoted.now ∷ []) }
+fn quote_level<'a>(env: &'a Env, at: Span, quoted: &'a Datum) -> Level<'a>
+    ensures value { shown result ≡ spec.own_level env.entry.now at quote_symbol (quoted.entry.now ∷ []) }
     ensures expandable { IsExpandable result }
 {
-    level_by(env.status_of_quote(), at, slice::from_ref(quoted))
+    level_by(env, env.status_of_quote(), at, slice::from_ref(quoted))
 }
 
-fn atom_level<'a>(env: &Env, at: Span, symbol: &Symbol) -> Level<'a>
-    ensures value { shown result ≡ spec.atom_level env.now at symbol.now (builtin_of symbol.now) }
+/// A name that is not built in, as an atom.
+fn own_atom<'a>(env: &'a Env, at: Span, symbol: &'a Symbol) -> Level<'a>
+    ensures value { shown result ≡ spec.atom_by env.entry.now symbol.entry.now (status_of env.entry.now symbol.entry.now) at }
+    ensures expandable { IsExpandable result }
+{
+    match env.status(symbol) {
+        NameStatus::Structure => Level::Structure(symbol),
+        status => level_by(env, status, at, &[]),
+    }
+}
+
+fn atom_level<'a>(env: &'a Env, at: Span, symbol: &'a Symbol) -> Level<'a>
+    ensures value { shown result ≡ spec.atom_level env.entry.now at symbol.entry.now (builtin_of symbol.entry.now) }
     ensures expandable { IsExpandable result }
 {
     match builtin(symbol) {
-        None => level_by(env.status(symbol), at, &[]),
+        None => own_atom(env, at, symbol),
         Some(name) => built_atom(at, name),
     }
 }
 
-fn list_level<'a>(env: &Env, at: Span, symbol: &Symbol, args: &'a [Datum]) -> Level<'a>
-    ensures value { shown result ≡ spec.list_level env.now at symbol.now args.now (builtin_of symbol.now) }
+fn list_level<'a>(env: &'a Env, at: Span, symbol: &Symbol, args: &'a [Datum]) -> Level<'a>
+    ensures value { shown result ≡ spec.list_level env.entry.now at symbol.now args.entry.now (builtin_of symbol.now) }
     ensures expandable { IsExpandable result }
 {
     match builtin(symbol) {
-        None => level_by(env.status(symbol), at, args),
+        None => level_by(env, env.status(symbol), at, args),
         Some(name) => built_list(at, args, name),
     }
 }
 
-fn items_level<'a>(env: &Env, at: Span, items: &'a [Datum]) -> Level<'a>
-    ensures value { shown result ≡ spec.items_level env.now at items.now }
+fn items_level<'a>(env: &'a Env, at: Span, items: &'a [Datum]) -> Level<'a>
+    ensures value { shown result ≡ spec.items_level env.entry.now at items.entry.now }
     ensures expandable { IsExpandable result }
 {
     match items {
@@ -126,8 +147,8 @@ fn items_level<'a>(env: &Env, at: Span, items: &'a [Datum]) -> Level<'a>
 }
 
 /// What the datum says as a specifier, one level deep.
-pub(crate) fn level_of<'a>(env: &Env, datum: &'a Datum) -> Level<'a>
-    ensures value { shown result ≡ spec.level env.now datum.now }
+pub(crate) fn level_of<'a>(env: &'a Env, datum: &'a Datum) -> Level<'a>
+    ensures value { shown result ≡ spec.level env.entry.now datum.entry.now }
     ensures expandable { IsExpandable result }
 {
     let at = datum.span;

@@ -7,6 +7,7 @@ use Rattle.ls_grammar.specs.Numbers.{refusal}
 use Rattle.ls_tables.specs.Builtins.{stands_alone}
 use Rattle.ls_spec.specs.declared.spec.DimPattern.{DimPattern}
 use Rattle.ls_spec.specs.declared.spec.DimPattern.TheVariants as dimensions
+use Rattle.ls_spec.specs.Specifier.{structure_under}
 use Rattle.ls_spec.specs.Meaning.{specifier}
 use Rattle.ls_spec.specs.Builtins.{expansion}
 use Rattle.ls_grammar.specs.declared.refusal.Refusal.{Refusal}
@@ -19,6 +20,8 @@ use Rattle.ls_grammar.specs.declared.level.Part as code_part
 use Rattle.ls_grammar.specs.declared.level.Part.TheVariants as part
 use Rattle.ls_grammar.specs.declared.level.Level.TheVariants as variant
 use Rattle.ls_grammar.specs.Levels.{Level, refused, known, object, members, all_of, some_of, none_of, pair_of}
+use Rattle.ls_deftype.specs.Templates.{definition_of}
+use Rattle.ls_grammar.specs.Saying.{use_of}
 use Rattle.ls_grammar.specs.Dimensions.{dimensions_of, one_place}
 use Rattle.ls_grammar.specs.ArrayLevels.{arrays, vectors_over}
 use Rattle.ls_grammar.specs.steps.Running.{Outcome}
@@ -39,6 +42,7 @@ abbrev pub shown : code.Level → Level
 shown (variant.Refused x) = refused x
 shown (variant.Known s) = known (specifier s)
 shown (variant.Named b) = known (expansion b)
+shown (variant.Structure s) = known (structure_under s.now)
 shown (variant.Object d) = object d.now
 shown (variant.Members ds) = members ds.now
 shown (variant.AllOf ds) = all_of ds.now
@@ -47,6 +51,7 @@ shown (variant.NoneOf d) = none_of d.now
 shown (variant.ConsOf car cdr) = pair_of (lent car) (lent cdr)
 shown (variant.ArrayOf e simple d) = arrays (lent e) simple (wanted d)
 shown (variant.VectorsOver b simple n) = known (vectors_over b simple n)
+shown (variant.Use t at args) = use_of (definition_of t.now) at args.now
 
 -- a name that is shown, also as an element type, has a meaning as an atom
 abbrev pub IsExpandable : code.Level → Type 0

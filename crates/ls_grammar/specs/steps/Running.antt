@@ -2,12 +2,13 @@
 use Rattle.std.specs.Prelude.{ℕ, zero, suc, ◌-◌, nat_lt, if◌then◌else◌, List, [], ◌∷◌, ◌++◌, Option, Some, None, Result, Ok, Err}
 use Rattle.ls_reader.specs.declared.datum.Span.{Span}
 use Rattle.ls_reader.specs.declared.datum.Datum.{Datum}
+use Rattle.ls_reader.specs.Sizes.{size}
 use Rattle.ls_spec.specs.Specifier.{Specifier, all_objects, not_of, array_of, cons_of}
 use Rattle.ls_env.specs.Environments.{Environment}
 use Rattle.ls_grammar.specs.declared.refusal.RefusalKind.TheVariants as kind
 use Rattle.ls_grammar.specs.declared.refusal.Refusal.{Refusal}
 use Rattle.ls_grammar.specs.Numbers.{refusal}
-use Rattle.ls_grammar.specs.Levels.{Level, refused, known, object, members, all_of, some_of, none_of, pair_of, array_over}
+use Rattle.ls_grammar.specs.Levels.{Level, refused, known, object, members, all_of, some_of, none_of, pair_of, array_over, expanded}
 use Rattle.ls_grammar.specs.Saying.{level, weight_of}
 use Rattle.ls_grammar.specs.Denoting.{eql_of, conjunction, disjunction}
 
@@ -63,6 +64,12 @@ run_level f (some_of ds) room = next (made disjunction) (run_all f ds room)
 run_level f (none_of d) room = next (made not_of) (f d room)
 run_level f (pair_of car cdr) room = run_pair f car cdr room
 run_level f (array_over d simple dims) room = next (made (λ e. array_of e simple dims)) (f d room)
+run_level f (expanded d) room = f d room
+
+-- what is done at a level when the room of its visit is taken: a use takes that of its expansion
+abbrev pub run_entered : (Datum → ℕ → Outcome Specifier) → Span → Level → ℕ → Outcome Specifier
+run_entered f at (expanded d) room = enter at (size d) (f d) room
+run_entered f at l room = run_level f l room
 
 -- a datum, with so many levels left
 unfoldable pub outcome : Environment → ℕ → Datum → ℕ → Outcome Specifier

@@ -9,6 +9,9 @@ decreases-resolve_in l = 4 * l.left
 abbrev pub decreases-resolve_at : goal.decreases-resolve_at
 decreases-resolve_at l = 4 * l.left + 3
 
+abbrev pub decreases-resolve_use : goal.decreases-resolve_use
+decreases-resolve_use l = 4 * l.left + 1
+
 abbrev pub decreases-resolve_cons : goal.decreases-resolve_cons
 decreases-resolve_cons l = 4 * l.left + 2
 

@@ -16,4 +16,4 @@ returns-clause-refuses c = refuses_of c.args.env.now c.args.datum.now c.resolve_
 
 pub returns-clause-fits : goal.returns-clause-fits
 returns-clause-fits c =
-    fits_of c.args.env.now.structures c.args.env.now c.args.datum.now c.resolve_in.result c.resolve_in.new.room c.resolve_in.ensures
+    fits_of c.args.env.now c.args.datum.now c.resolve_in.result c.resolve_in.new.room c.resolve_in.ensures
