@@ -48,8 +48,9 @@ all-built [] h = tt
 all-built (s ∷ ss) h = (h.0, all-built ss h.1)
 
 -- the levels keep what is built
-built_is_kept : IsKept (λ n. IsBuilt)
+built_is_kept : IsKept (λ s. Unit {0}) (λ n. IsBuilt)
 built_is_kept = record {
+  structure = λ n s h. tt;
   range = λ n k lo hi l h. tt;
   atom = λ n. atom-built;
   array = λ n simple dims h. tt;
@@ -62,7 +63,8 @@ built_is_kept = record {
   any = λ n. tt;
   pair = λ n a b g h. (g, h);
   element = λ n e simple dims small h. h;
+  deeper = λ n s h. h;
 }
 
 pub denoted-built : (env : Environment) (d : Datum) (s : Specifier) → Denotes env d s → IsBuilt s
-denoted-built env d s h = kept_in (λ n. IsBuilt) built_is_kept env h.0 d s h.1
+denoted-built env d s h = kept_in (λ s. Unit {0}) (λ n. IsBuilt) built_is_kept env (λ s e. tt) h.0 d s h.1

@@ -10,7 +10,7 @@ use Rattle.ls_reader.specs.declared.datum.Datum.{Datum}
 use Rattle.ls_spec.proofs.ApproximationLemmas.{low_within, within_high}
 use Rattle.ls_spec.proofs.PlainLemmas.{sure-no_predicate}
 use Rattle.ls_spec.specs.Specifier.{Specifier}
-use Rattle.ls_env.specs.Environments.{Environment, environment}
+use Rattle.ls_env.specs.Environments.{Environment, environment, structures_of}
 use Rattle.ls_grammar.specs.declared.refusal.Refusal.{Refusal}
 use Rattle.ls_grammar.specs.Denoting.{Denotes}
 use Rattle.ls_grammar.specs.Visiting.{refusal_of, earlier}
@@ -85,8 +85,8 @@ IsLineFor-from_right budget env (inclusion a b) (Answered answer) right = record
       let other : b ≡ d = cc in
       let s_is : right.0 ≡ s = denotes_one env c right.0 s (subst (λ e. Denotes env e right.0) one right.2.denotes) first.denotes in
       let t_is : right.1 ≡ t = denotes_one env d right.1 t (subst (λ e. Denotes env e right.1) other right.3.denotes) second.denotes in
-      let first_is = subst (λ u. IsRight env.structures u right.1 budget answer) s_is right.4 in
-      IsDecided-from_right env.structures s t budget answer (subst (λ u. IsRight env.structures s u budget answer) t_is first_is));
+      let first_is = subst (λ u. IsRight (structures_of env) u right.1 budget answer) s_is right.4 in
+      IsDecided-from_right (structures_of env) s t budget answer (subst (λ u. IsRight (structures_of env) s u budget answer) t_is first_is));
   refused = λ x is. absurd (no_refusal (refusal_of env a) (refusal_of env b) x right.2.unrefused right.3.unrefused is);
 }
 IsLineFor-from_right budget env (refused x) (Answered answer) right = absurd right

@@ -9,7 +9,7 @@ use Rattle.ls_spec.specs.Specifier.{Specifier}
 use Rattle.ls_spec.specs.Approximation.{HasNoPredicate}
 use Rattle.ls_spec.specs.Inclusion.{IsIncluded, IsWitness, IsUnsureWitness}
 use Rattle.ls_env.specs.declared.query.Query.{Query}
-use Rattle.ls_env.specs.Environments.{Environment, environment}
+use Rattle.ls_env.specs.Environments.{Environment, environment, structures_of}
 use Rattle.ls_grammar.specs.declared.refusal.Refusal.{Refusal}
 use Rattle.ls_grammar.specs.Visiting.{Resolves}
 use Rattle.ls_decide.specs.declared.answer.Answer.TheVariants.{Yes, No, Unsure, TooLarge}
@@ -43,7 +43,7 @@ pub record IsDecided (structures : Structures) (a b : Specifier) (budget : ℕ) 
 -- A line decides the query where both of its types resolve. Where it is refused, the line says why.
 pub record IsLineFor (budget : ℕ) (env : Environment) (question : Question) (line : Line) : Type 0 where
   pub decided : (a b : Datum) (s t : Specifier) → question ≡ inclusion a b → Resolves env a s → Resolves env b t
-      → IsDecided env.structures s t budget line
+      → IsDecided (structures_of env) s t budget line
   pub refused : (x : Refusal) → refusal_of_question env question ≡ Some x → line ≡ Refused x
 
 -- What the sink took is a line for each query of the forms, in order, and each line is for its query.

@@ -9,7 +9,7 @@ use Rattle.ls_reader.specs.declared.fault.ReadError.{ReadError}
 use Rattle.ls_reader.specs.declared.fault.ReadError.TheVariants as errors
 use Rattle.ls_spec.specs.Specifier.{Specifier}
 use Rattle.ls_env.specs.declared.query.Query.{Query}
-use Rattle.ls_env.specs.Environments.{Environment, environment}
+use Rattle.ls_env.specs.Environments.{Environment, environment, structures_of}
 use Rattle.ls_grammar.specs.declared.refusal.RefusalKind.{RefusalKind}
 use Rattle.ls_grammar.specs.declared.refusal.RefusalKind.TheVariants as kind
 use Rattle.ls_grammar.specs.Visiting.{Resolves}
@@ -43,7 +43,7 @@ pub record AreReported {X L : Type 0} (IsRightFor : X → L → Type 0) (text_of
 abbrev pub IsRightLine : ℕ → Environment → Question → Line → Type 0
 IsRightLine budget env question (Refused x) = refusal_of_question env question ≡ Some x
 IsRightLine budget env (inclusion a b) (Answered answer) =
-    (s : Specifier) × (t : Specifier) × Resolves env a s × Resolves env b t × IsRight env.structures s t budget answer
+    (s : Specifier) × (t : Specifier) × Resolves env a s × Resolves env b t × IsRight (structures_of env) s t budget answer
 IsRightLine budget env (refused x) (Answered answer) = ⊥
 
 -- the line is right for the query
@@ -62,6 +62,13 @@ answer_text TooLarge = codes "TOO-LARGE"
 
 -- a kind is written in capitals, with a hyphen between its words
 abbrev pub refusal_name : RefusalKind → List ℕ
+refusal_name kind.UnknownType = codes "UNKNOWN-TYPE"
+refusal_name kind.ClassType = codes "CLASS-TYPE"
+refusal_name kind.NameTwice = codes "NAME-TWICE"
+refusal_name kind.RecursiveType = codes "RECURSIVE-TYPE"
+refusal_name kind.CodeBody = codes "CODE-BODY"
+refusal_name kind.BadDefinition = codes "BAD-DEFINITION"
+refusal_name kind.ArgumentCount = codes "ARGUMENT-COUNT"
 refusal_name kind.FloatRange = codes "FLOAT-RANGE"
 refusal_name kind.ComplexPart = codes "COMPLEX-PART"
 refusal_name kind.FunctionList = codes "FUNCTION-LIST"

@@ -1,5 +1,6 @@
 // The line that answers a query.
 
+ghost use Rattle.ls_env.specs.Environments.{structures_of};
 ghost use Rattle.std.specs.Prelude.{◌≡◌, IfOk};
 ghost use Rattle.ls_cells.specs.Kept.{structures_in, entries_in, Grows};
 ghost use Rattle.subtypep_app.specs.Queries.{inclusion};
@@ -56,7 +57,7 @@ fn inclusion_line<L: Ledger>(
     first: &Datum,
     second: &Datum,
 ) -> Result<Line, AllocError>
-    requires structures { structures_in decider.old.session ≡ env.now.structures }
+    requires structures { structures_in decider.old.session ≡ structures_of env.now }
     ensures budget { decider.new.budget ≡ decider.old.budget }
     ensures structures { structures_in decider.new.session ≡ structures_in decider.old.session }
     ensures keeps { Grows (entries_in decider.old.session) (entries_in decider.new.session) }
@@ -81,7 +82,7 @@ pub(crate) fn line_of<L: Ledger>(
     decider: &mut Decider<L>,
     query: &Query,
 ) -> Result<Line, AllocError>
-    requires structures { structures_in decider.old.session ≡ env.now.structures }
+    requires structures { structures_in decider.old.session ≡ structures_of env.now }
     ensures budget { decider.new.budget ≡ decider.old.budget }
     ensures structures { structures_in decider.new.session ≡ structures_in decider.old.session }
     ensures keeps { Grows (entries_in decider.old.session) (entries_in decider.new.session) }

@@ -1,5 +1,6 @@
 // The report on a text.
 
+ghost use Rattle.ls_env.specs.Environments.{structures_of};
 ghost use Rattle.std.specs.Prelude.{◌≡◌, ◌<◌, ◌≤◌, ◌++◌, ◌^◌, [], length, IfOk, OnOk};
 ghost use Rattle.std.specs.Str.{IsAscii};
 ghost use Rattle.ls_io.specs.Moves.{limit};
@@ -36,7 +37,7 @@ fn push_query<L: Ledger>(
     query: &Query,
     out: &mut Text,
 ) -> Result<bool, AllocError>
-    requires structures { structures_in decider.old.session ≡ env.now.structures }
+    requires structures { structures_in decider.old.session ≡ structures_of env.now }
     ensures budget { decider.new.budget ≡ decider.old.budget }
     ensures structures { structures_in decider.new.session ≡ structures_in decider.old.session }
     ensures keeps { Grows (entries_in decider.old.session) (entries_in decider.new.session) }
@@ -56,7 +57,7 @@ fn push_queries<L: Ledger>(
     out: &mut Text,
 ) -> Result<bool, AllocError>
     requires empty { out.old ≡ [] }
-    requires structures { structures_in decider.old.session ≡ env.now.structures }
+    requires structures { structures_in decider.old.session ≡ structures_of env.now }
     ensures budget { decider.new.budget ≡ decider.old.budget }
     ensures structures { structures_in decider.new.session ≡ structures_in decider.old.session }
     ensures keeps { Grows (entries_in decider.old.session) (entries_in decider.new.session) }

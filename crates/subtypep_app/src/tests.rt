@@ -4,8 +4,10 @@ mod answers;
 mod arrays;
 mod budgets;
 mod conses;
+mod deftype;
 mod refusals;
 mod streams;
+mod structures;
 
 use crate::app::run;
 use crate::status::Status;
@@ -81,3 +83,19 @@ pub(crate) fn outcome_of(alloc: Global, case: &Case) -> Result<Outcome, AllocErr
 
 /// A text, and its report.
 pub(crate) type Row<'a> = (&'a [u8], &'a [u8]);
+
+/// The place of the first text whose report is not the one beside it, or whose run does not end with the status; None
+/// where there is none.
+pub(crate) fn first_wrong(
+    alloc: Global,
+    rows: &[Row<'_>],
+    status: Status,
+) -> Result<Option<usize>, AllocError> {
+    for (place, (text, report)) in rows.iter().enumerate() {
+        let got = outcome_of(alloc, &Case::ask(*text))?;
+        if got.bytes.as_slice() != *report || got.status != status {
+            return Ok(Some(place));
+        }
+    }
+    Ok(None)
+}

@@ -50,6 +50,13 @@ fn refusal_name(kind: RefusalKind) -> &'static str
     ensures text { result.now ≡ refusal_name kind }
 {
     match kind {
+        RefusalKind::UnknownType => "UNKNOWN-TYPE",
+        RefusalKind::ClassType => "CLASS-TYPE",
+        RefusalKind::NameTwice => "NAME-TWICE",
+        RefusalKind::RecursiveType => "RECURSIVE-TYPE",
+        RefusalKind::CodeBody => "CODE-BODY",
+        RefusalKind::BadDefinition => "BAD-DEFINITION",
+        RefusalKind::ArgumentCount => "ARGUMENT-COUNT",
         RefusalKind::FloatRange => "FLOAT-RANGE",
         RefusalKind::ComplexPart => "COMPLEX-PART",
         RefusalKind::FunctionList => "FUNCTION-LIST",

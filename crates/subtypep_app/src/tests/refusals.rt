@@ -59,8 +59,8 @@ const REFUSED: [Row<'static>; 26] = [
         b"(subtypep '(vector t (2)) 'sequence)",
         b"1:1 REFUSED BAD-ARGUMENT 1:22\n",
     ),
-    (b"(subtypep :a t)", b"1:1 REFUSED NOT-BUILT 1:11\n"),
-    (b"(subtypep 't :a)", b"1:1 REFUSED NOT-BUILT 1:14\n"),
+    (b"(subtypep :a t)", b"1:1 REFUSED UNKNOWN-TYPE 1:11\n"),
+    (b"(subtypep 't :a)", b"1:1 REFUSED UNKNOWN-TYPE 1:14\n"),
     // The refusal of the first type comes first.
     (
         b"(subtypep '(satisfies p) '(float 1))",
