@@ -127,9 +127,9 @@ const REFUSED: [(&str, &str); 56] = [
     ("(cons (eql) (mod 0))", "BadArgument 7"),
     ("(sequence)", "BadArgument 1"),
     ("satisfies", "NotBuilt 1"),
-    ("(foo *)", "NotBuilt 1"),
-    ("(not foo)", "NotBuilt 6"),
-    ("'integer", "NotBuilt 1"),
+    ("(foo *)", "UnknownType 1"),
+    ("(not foo)", "UnknownType 6"),
+    ("'integer", "UnknownType 1"),
     ("(or (mod 0) *)", "BadBound 10"),
 ];
 

@@ -68,7 +68,7 @@ const REFUSED: [(&str, &str); 31] = [
     ("(vector (mod 0) 1)", "BadBound 14"),
     ("(array (or *) 2)", "StarNotAllowed 12"),
     ("(vector foo a)", "BadArgument 13"),
-    ("(vector foo 1)", "NotBuilt 9"),
+    ("(vector foo 1)", "UnknownType 9"),
 ];
 
 #[test]
