@@ -15,6 +15,11 @@
     bench/queries.py elements N   N queries of two vectors whose element types are ranges of integers
     bench/queries.py shapes N     one query: an OR of N arrays of two dimensions, no two alike, against the reverse
     bench/queries.py cubes N      the same of three dimensions
+    bench/queries.py deftypes N   N DEFTYPEs, each naming the one before, and a query of the first
+    bench/queries.py structs N    N structure types of which each includes the one before, and N that include none, with
+                                  2 N queries of two of their names
+    bench/queries.py deepest N    N DEFTYPEs, each of which nests its argument 250 lists deep and hands it to the next;
+                                  with 44 the data are as deep as the room of a query lets them be
 """
 import itertools
 import os
@@ -112,6 +117,37 @@ def boxes(rank, count):
     against_reverse([f"(array * ({' '.join(str(count * place + n) for place in range(rank))}))" for n in range(count)])
 
 
+def deftypes(count):
+    print("(deftype t0 () 'bit)")
+    for n in range(1, count):
+        print(f"(deftype t{n} () 't{n - 1})")
+    ask('t0', 'integer')
+
+
+def structs(count):
+    rng = random.Random(1)
+    print('(defstruct c0)')
+    for n in range(1, count):
+        print(f'(defstruct (c{n} (:include c{n - 1})))')
+    for n in range(count):
+        print(f'(defstruct f{n})')
+    names = [f'c{n}' for n in range(count)] + [f'f{n}' for n in range(count)]
+    for _ in range(2 * count):
+        ask(rng.choice(names), rng.choice(names))
+
+
+def deepest(count):
+    """Templates that hand their argument on to the next one, 250 lists deep each: the expansions nest data further."""
+    for n in range(count):
+        print(f"(deftype t{n} (x) `(t{n + 1} {'(' * 250},x{')' * 250}))")
+    print(f"(deftype t{count} (x) 't)")
+    ask('(t0 t)', 't')
+
+
+BY_NAME = {'member': member, 'conses': conses, 'nots': nots, 'overlaps': overlaps, 'places': places, 'arrays': arrays,
+           'elements': elements, 'deftypes': deftypes, 'structs': structs, 'deepest': deepest}
+
+
 def main(kind, count):
     rng = random.Random(1)
     if kind == 'ranges':
@@ -128,9 +164,8 @@ def main(kind, count):
         against_reverse([f'(integer {10 * n} {10 * n + 4})' for n in range(count)])
     elif kind in ('shapes', 'cubes'):
         boxes(2 if kind == 'shapes' else 3, count)
-    elif kind in ('member', 'conses', 'nots', 'overlaps', 'places', 'arrays', 'elements'):
-        {'member': member, 'conses': conses, 'nots': nots, 'overlaps': overlaps, 'places': places, 'arrays': arrays,
-         'elements': elements}[kind](count)
+    elif kind in BY_NAME:
+        BY_NAME[kind](count)
     else:
         sys.exit(__doc__)
 

@@ -78,7 +78,12 @@
 lines|) (subtypep 'bit nil))))
   (try '(((t t nil "T")))
        (decide-all '((bit integer))
-                   :definitions (list (format nil "(deftype index () `(integer ~%0))~%; a comment")))))
+                   :definitions (list (format nil "(deftype index () `(integer ~%0))~%; a comment"))))
+  ;; The types that they define.
+  (let ((structure "#<STRUCTURE SELVDRIK/TESTS::PART>"))
+    (try `(((t t nil "T") (nil t ,structure ,(format nil "NIL WITNESS ~A" structure))))
+         (decide-all '((index (integer -1)) (part index))
+                     :definitions '((deftype index () '(integer 0)) (defstruct part index))))))
 
 (defun try-failures ()
   (signals program-failed (decide 'bit 'integer :budget 0))
