@@ -14,10 +14,6 @@ pub last_of : (ds : List Datum) (d : Datum) → split_last (ds ++ d ∷ []) ≡ 
 last_of [] d = refl
 last_of (e ∷ ds) d = ap (λ o. Some (behind_first e o)) (last_of ds d)
 
--- a datum that holds one is made of it alone
-pub assembled_last : (c : Construct) (ds : List Datum) (d : Datum) → with_last c (split_last (ds ++ d ∷ [])) ≡ with_last c (Some (ds, d))
-assembled_last c ds d = ap (with_last c) (last_of ds d)
-
 -- the innermost construct at the end of the list, with its part in it
 pub plugged_last : (bs : List Begun) (b : Begun) (d : Datum) → plugged (bs ++ b ∷ []) d ≡ plugged bs (ended_with b (b.made ++ d ∷ left b))
 plugged_last [] b d = refl

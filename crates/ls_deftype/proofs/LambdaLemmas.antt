@@ -1,65 +1,39 @@
 -- Parts of lambda lists, one item at a time.
 use Rattle.std.proofs.Common.{◌≡◌, ℕ, ◌+◌, ◌<◌, ◌≤◌, List, [], ◌∷◌, ◌++◌, length, get_or, drop, Option, Some, None, refl, ap, sym, ◌∙◌, append_assoc, add-one, drop-cons, arith, zero, suc, true, false, not, cond}
 use Rattle.std.specs.Prelude.{option_map}
-use Rattle.ls_object.specs.declared.symbol.Symbol.{Symbol}
 use Rattle.ls_reader.specs.declared.datum.Datum.{Datum}
-use Rattle.ls_deftype.specs.declared.lambda.OptionalParam.{OptionalParam}
 use Rattle.ls_deftype.specs.Symbols.{is_symbol, is_lambda_keyword}
-use Rattle.ls_deftype.specs.LambdaLists.{name_of, names_of, and_name, item_of, and_item, optionals_of, keyword_at}
+use Rattle.ls_deftype.specs.LambdaLists.{and_one, each_of, keyword_at}
 
-names_drop : (ds : List Datum) (i : ℕ) (d : Datum) → i < length ds → names_of (drop i ds) ≡ and_name (name_of (get_or ds i d)) (names_of (drop (i + 1) ds))
-names_drop ds i d h = rw (add-one, drop-cons ds i d h) refl
+-- ---- what each item says
 
-with_name : (names : List Symbol) (s : Symbol) (o : Option (List Symbol)) → option_map (λ ss. names ++ ss) (and_name (Some s) o) ≡ option_map (λ ss. (names ++ s ∷ []) ++ ss) o
-with_name names s None = refl
-with_name names s (Some ss) = ap Some (sym (append_assoc names (s ∷ []) ss))
+each_drop : {X : Type 0} (f : Datum → Option X) (ds : List Datum) (i : ℕ) (d : Datum) → i < length ds
+    → each_of f (drop i ds) ≡ and_one (f (get_or ds i d)) (each_of f (drop (i + 1) ds))
+each_drop f ds i d h = rw (add-one, drop-cons ds i d h) refl
 
-no_name : (o : Option (List Symbol)) → and_name None o ≡ None
-no_name None = refl
-no_name (Some ss) = refl
+with_one : {X : Type 0} (xs : List X) (x : X) (o : Option (List X)) → option_map (λ ys. xs ++ ys) (and_one (Some x) o) ≡ option_map (λ ys. (xs ++ x ∷ []) ++ ys) o
+with_one xs x None = refl
+with_one xs x (Some ys) = ap Some (sym (append_assoc xs (x ∷ []) ys))
 
--- the names so far, with one more
-pub names_next : (ds : List Datum) (i : ℕ) (d : Datum) (names : List Symbol) (s : Symbol) → i < length ds → d ≡ get_or ds i d → name_of d ≡ Some s
-    → option_map (λ ss. names ++ ss) (names_of (drop i ds)) ≡ names_of ds → option_map (λ ss. (names ++ s ∷ []) ++ ss) (names_of (drop (i + 1) ds)) ≡ names_of ds
-names_next ds i d names s h is e all =
-    sym (with_name names s (names_of (drop (i + 1) ds)))
-    ∙ ap (λ o. option_map (λ ss. names ++ ss) (and_name o (names_of (drop (i + 1) ds)))) (sym e ∙ ap name_of is)
-    ∙ ap (option_map (λ ss. names ++ ss)) (sym (names_drop ds i d h))
+none_one : {X : Type 0} (o : Option (List X)) → and_one None o ≡ None
+none_one None = refl
+none_one (Some xs) = refl
+
+-- what the items say so far, with one more
+pub each_next : {X : Type 0} (f : Datum → Option X) (ds : List Datum) (i : ℕ) (d : Datum) (xs : List X) (x : X) → i < length ds → d ≡ get_or ds i d → f d ≡ Some x
+    → option_map (λ ys. xs ++ ys) (each_of f (drop i ds)) ≡ each_of f ds → option_map (λ ys. (xs ++ x ∷ []) ++ ys) (each_of f (drop (i + 1) ds)) ≡ each_of f ds
+each_next f ds i d xs x h is e all =
+    sym (with_one xs x (each_of f (drop (i + 1) ds)))
+    ∙ ap (λ o. option_map (λ ys. xs ++ ys) (and_one o (each_of f (drop (i + 1) ds)))) (sym e ∙ ap f is)
+    ∙ ap (option_map (λ ys. xs ++ ys)) (sym (each_drop f ds i d h))
     ∙ all
 
--- a datum that names nothing
-pub names_none : (ds : List Datum) (i : ℕ) (d : Datum) (names : List Symbol) → i < length ds → d ≡ get_or ds i d → name_of d ≡ None
-    → option_map (λ ss. names ++ ss) (names_of (drop i ds)) ≡ names_of ds → names_of ds ≡ None
-names_none ds i d names h is e all =
+-- an item that says nothing
+pub each_none : {X : Type 0} (f : Datum → Option X) (ds : List Datum) (i : ℕ) (d : Datum) (xs : List X) → i < length ds → d ≡ get_or ds i d → f d ≡ None
+    → option_map (λ ys. xs ++ ys) (each_of f (drop i ds)) ≡ each_of f ds → each_of f ds ≡ None
+each_none f ds i d xs h is e all =
     sym all
-    ∙ ap (option_map (λ ss. names ++ ss)) (names_drop ds i d h ∙ ap (λ o. and_name o (names_of (drop (i + 1) ds))) (sym (ap name_of is) ∙ e) ∙ no_name (names_of (drop (i + 1) ds)))
-
-items_drop : (ds : List Datum) (i : ℕ) (d : Datum) → i < length ds → optionals_of (drop i ds) ≡ and_item (item_of (get_or ds i d)) (optionals_of (drop (i + 1) ds))
-items_drop ds i d h = rw (add-one, drop-cons ds i d h) refl
-
-with_item : (ps : List OptionalParam) (p : OptionalParam) (o : Option (List OptionalParam)) → option_map (λ qs. ps ++ qs) (and_item (Some p) o) ≡ option_map (λ qs. (ps ++ p ∷ []) ++ qs) o
-with_item ps p None = refl
-with_item ps p (Some qs) = ap Some (sym (append_assoc ps (p ∷ []) qs))
-
-no_item : (o : Option (List OptionalParam)) → and_item None o ≡ None
-no_item None = refl
-no_item (Some ps) = refl
-
--- the optional parameters so far, with one more
-pub items_next : (ds : List Datum) (i : ℕ) (d : Datum) (ps : List OptionalParam) (p : OptionalParam) → i < length ds → d ≡ get_or ds i d → item_of d ≡ Some p
-    → option_map (λ qs. ps ++ qs) (optionals_of (drop i ds)) ≡ optionals_of ds → option_map (λ qs. (ps ++ p ∷ []) ++ qs) (optionals_of (drop (i + 1) ds)) ≡ optionals_of ds
-items_next ds i d ps p h is e all =
-    sym (with_item ps p (optionals_of (drop (i + 1) ds)))
-    ∙ ap (λ o. option_map (λ qs. ps ++ qs) (and_item o (optionals_of (drop (i + 1) ds)))) (sym e ∙ ap item_of is)
-    ∙ ap (option_map (λ qs. ps ++ qs)) (sym (items_drop ds i d h))
-    ∙ all
-
--- an item that says no parameter
-pub items_none : (ds : List Datum) (i : ℕ) (d : Datum) (ps : List OptionalParam) → i < length ds → d ≡ get_or ds i d → item_of d ≡ None
-    → option_map (λ qs. ps ++ qs) (optionals_of (drop i ds)) ≡ optionals_of ds → optionals_of ds ≡ None
-items_none ds i d ps h is e all =
-    sym all
-    ∙ ap (option_map (λ qs. ps ++ qs)) (items_drop ds i d h ∙ ap (λ o. and_item o (optionals_of (drop (i + 1) ds))) (sym (ap item_of is) ∙ e) ∙ no_item (optionals_of (drop (i + 1) ds)))
+    ∙ ap (option_map (λ ys. xs ++ ys)) (each_drop f ds i d h ∙ ap (λ o. and_one o (each_of f (drop (i + 1) ds))) (sym (ap f is) ∙ e) ∙ none_one (each_of f (drop (i + 1) ds)))
 
 -- ---- lambda keywords
 

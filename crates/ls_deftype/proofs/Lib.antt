@@ -1,5 +1,4 @@
 pub mod LambdaLemmas
-pub mod NameLemmas
 pub mod SizeLemmas
 pub mod CopyLemmas
 pub mod ArgumentLemmas

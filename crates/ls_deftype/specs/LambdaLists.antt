@@ -32,16 +32,20 @@ before_keyword ds = take (keyword_at ds) ds
 abbrev pub from_keyword : List Datum → List Datum
 from_keyword ds = drop (keyword_at ds) ds
 
--- ---- required parameters
+abbrev pub and_one : {X : Type 0} → Option X → Option (List X) → Option (List X)
+and_one (Some x) (Some xs) = Some (x ∷ xs)
+and_one _ _ = None
 
-abbrev pub and_name : Option Symbol → Option (List Symbol) → Option (List Symbol)
-and_name (Some s) (Some ss) = Some (s ∷ ss)
-and_name _ _ = None
+-- what each of the data says, if each says something
+abbrev pub each_of : {X : Type 0} → (Datum → Option X) → List Datum → Option (List X)
+each_of f [] = Some []
+each_of f (d ∷ ds) = and_one (f d) (each_of f ds)
+
+-- ---- required parameters
 
 -- each is the name of a parameter
 abbrev pub names_of : List Datum → Option (List Symbol)
-names_of [] = Some []
-names_of (d ∷ ds) = and_name (name_of d) (names_of ds)
+names_of ds = each_of name_of ds
 
 -- ---- optional parameters
 
@@ -79,13 +83,9 @@ item_form d _ = parameter (name_of d) (Some (star d.span))
 abbrev pub item_of : Datum → Option OptionalParam
 item_of d = item_form d (out-Form d.form)
 
-abbrev pub and_item : Option OptionalParam → Option (List OptionalParam) → Option (List OptionalParam)
-and_item (Some p) (Some ps) = Some (p ∷ ps)
-and_item _ _ = None
-
+-- each is an optional parameter
 abbrev pub optionals_of : List Datum → Option (List OptionalParam)
-optionals_of [] = Some []
-optionals_of (d ∷ ds) = and_item (item_of d) (optionals_of ds)
+optionals_of ds = each_of item_of ds
 
 -- ---- the rest parameter
 

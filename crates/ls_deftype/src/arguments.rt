@@ -94,16 +94,16 @@ impl<'a> Use<'a> {
     }
 
     /// What the parameter that a datum names stands for.
-    pub fn value_of(&self, datum: &Datum) -> Result<Value<'a>, AllocError>
+    pub fn value_of(&self, datum: &Datum) -> Value<'a>
         requires { length self.now.template.now.required ≤ length self.now.args.now }
-        ensures { IfOk result (λ v. shown (use_of self.now) v ≡ spec.value_of (use_of self.now) (symbol_of datum.now)) }
+        ensures { shown (use_of self.now) result ≡ spec.value_of (use_of self.now) (symbol_of datum.now) }
     {
         let Some(symbol) = symbol_of(datum) else {
-            return Ok(Value::None);
+            return Value::None;
         };
-        match self.template.names.find(symbol)? {
-            Some(at) => Ok(self.value_at(at)),
-            None => Ok(Value::None),
+        match self.template.names.find(symbol) {
+            Some(at) => self.value_at(at),
+            None => Value::None,
         }
     }
 }

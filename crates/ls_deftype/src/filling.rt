@@ -47,7 +47,7 @@ impl Use<'_> {
             (size (spec.comma (use_of self.now) at (spec.filled (use_of self.now) of.now)).one)
             room.old room.new result }
     {
-        match self.value_of(of)? {
+        match self.value_of(of) {
             Value::Datum(value) => copy_within(self.alloc, value, room),
             Value::Rest => self.rest_list(room),
             Value::None => {

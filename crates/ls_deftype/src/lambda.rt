@@ -53,7 +53,7 @@ fn keyword_at(data: &[Datum]) -> usize
 }
 
 /// The parameters that the data name; `None` where one of them names none.
-#[tactic(auto, using(crate::proofs::LambdaLemmas::names_next, crate::proofs::LambdaLemmas::names_none))]
+#[tactic(auto, using(crate::proofs::LambdaLemmas::each_next, crate::proofs::LambdaLemmas::each_none))]
 fn names_of(alloc: Global, data: &[Datum]) -> Result<Option<Items<Symbol>>, AllocError>
     ensures { IfOk result (λ names. names ≡ spec.names_of data.now) }
 {
@@ -149,7 +149,7 @@ fn item_of(alloc: Global, item: &Datum) -> Result<Option<OptionalParam>, AllocEr
 }
 
 /// The optional parameters that the items say; `None` where one of them says none.
-#[tactic(auto, using(crate::proofs::LambdaLemmas::items_next, crate::proofs::LambdaLemmas::items_none))]
+#[tactic(auto, using(crate::proofs::LambdaLemmas::each_next, crate::proofs::LambdaLemmas::each_none))]
 fn optionals_of(alloc: Global, items: &[Datum]) -> Result<Option<Items<OptionalParam>>, AllocError>
     ensures { IfOk result (λ ps. ps ≡ spec.optionals_of items.now) }
 {

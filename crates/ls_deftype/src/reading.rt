@@ -82,9 +82,8 @@ fn body_is_sound<'a>(
     body: &Datum,
     names: &'a Names,
     rest: &'a Option<Symbol>,
-) -> Result<bool, AllocError>
-    ensures { IfOk result (λ b.
-        b ≡ is_sound (record { backquoted = backquoted; names = names.now; rest = rest.now }) body.now) }
+) -> bool
+    ensures { result ≡ is_sound (record { backquoted = backquoted; names = names.now; rest = rest.now }) body.now }
 {
     let rules = Rules {
         backquoted,
@@ -108,7 +107,7 @@ fn template_with(
     let Some(names) = names_of(alloc, &parameters)? else {
         return Err(TemplateFault::BadLambdaList);
     };
-    if !body_is_sound(body.backquoted, body.datum, &names, &parameters.rest)? {
+    if !body_is_sound(body.backquoted, body.datum, &names, &parameters.rest) {
         return Err(TemplateFault::CodeBody);
     }
     let copy = body.datum.copy(alloc)?;
