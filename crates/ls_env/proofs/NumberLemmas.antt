@@ -3,6 +3,7 @@ use Rattle.std.proofs.Common.{◌≡◌, ℕ, zero, suc, ◌+◌, ◌<◌, ◌�
 use Rattle.std.specs.Prelude.{if◌then◌else◌, slice_get, position, filter_map}
 use Rattle.std.specs.List.{AllByRecursion, cons_option}
 use Rattle.std.proofs.lemmas.List.{length-map}
+use Rattle.std.proofs.lemmas.Option.{none-some, same_Some}
 use Rattle.ls_object.specs.declared.symbol.Symbol.{Symbol}
 use Rattle.ls_object.specs.Symbols.{same_symbol}
 use Rattle.ls_deftype.specs.declared.fault.TemplateFault.{TemplateFault}
@@ -96,18 +97,11 @@ all_numbered count graph before ss is h = subst (AreNumbered count) (sym is) (fi
 
 -- ---- the number of a name
 
--- no status is some status
-none_some : (s : NameStatus) → None ≡ Some s → ⊥
-none_some s e = cc
-
 -- the number in a status at a place is below the count
 pub number_at : (count : ℕ) (ss : List NameStatus) → AreNumbered count ss → (k n : ℕ)
     → slice_get ss k ≡ Some (status.Deftype n) → n < count
-number_at count [] h k n e = absurd (none_some (status.Deftype n) e)
-number_at count (s ∷ ss) h zero n e = subst (IsNumbered count) (same s (status.Deftype n) e) h.0
-  where
-    same : (a b : NameStatus) → Some a ≡ Some b → a ≡ b
-    same a b f = cc
+number_at count [] h k n e = absurd (none-some (status.Deftype n) e)
+number_at count (s ∷ ss) h zero n e = subst (IsNumbered count) (same_Some s (status.Deftype n) e) h.0
 number_at count (s ∷ ss) h (suc k) n e = number_at count ss h.1 k n e
 
 -- a status with a number is not Unknown

@@ -1,17 +1,15 @@
 -- What the walk has seen in the end is what is reached.
-use Rattle.std.proofs.Common.{◌≡◌, ℕ, ◌+◌, ◌<◌, ◌↔◌, zero, suc, inl, inr, List, [], ◌∷◌, ◌++◌, Bool, true, false, Option, Some, None, length, refl, sym, ap, subst, ◌∙◌, arith, length-append, IsTrue}
+use Rattle.std.proofs.Common.{◌≡◌, ℕ, ◌+◌, ◌<◌, ◌↔◌, zero, suc, inl, inr, List, [], ◌∷◌, ◌++◌, Bool, true, false, Option, Some, None, length, get_or, refl, sym, ap, subst, ◌∙◌, arith, length-append, IsTrue}
 use Rattle.std.specs.Prelude.{slice_get, slice_set, ◌⊎◌}
-use Rattle.std.proofs.lemmas.Option.{slice_get_within}
+use Rattle.std.proofs.lemmas.Bool.Decides.{eqb_tells}
+use Rattle.std.proofs.lemmas.Option.{none-some, same_Some, slice_get_within, slice_get-get_or}
 use Rattle.ls_env.specs.declared.walk.Seen.{Seen}
 use Rattle.ls_env.specs.Reaching.{In, body, IsPath, Reaches, falses, blank, see, see_by, see_all, follow, follow_by, walk, or_false, comes_back, InRange}
 
 -- ---- lists
 
 same_or_not : (m n : ℕ) → (m ≡ n) ⊎ (m ≡ n → ⊥)
-same_or_not zero zero = inl refl
-same_or_not zero (suc n) = inr (λ e. absurd (omega arith))
-same_or_not (suc m) zero = inr (λ e. absurd (omega arith))
-same_or_not (suc m) (suc n) = elim (same_or_not m n) [ inl e ↦ inl (ap suc e) | inr d ↦ inr (λ e. d (omega arith)) ]
+same_or_not m n = elim (eqb_tells m n) [ inl p ↦ inl p.1 | inr p ↦ inr p.1 ]
 
 in_left : (b : ℕ) (xs ys : List ℕ) → In b xs → In b (xs ++ ys)
 in_left b [] ys h = absurd h
@@ -114,11 +112,6 @@ get_append [] ys j m h = cc
 get_append (x ∷ xs) ys zero m h = h
 get_append (x ∷ xs) ys (suc j) m h = get_append xs ys j m h
 
-get_some : (xs : List ℕ) (j : ℕ) → j < length xs → (m : ℕ) × (slice_get xs j ≡ Some m)
-get_some [] j lt = absurd (omega arith)
-get_some (x ∷ xs) zero lt = (x, refl)
-get_some (x ∷ xs) (suc j) lt = get_some xs j (omega arith)
-
 in_from_get : (xs : List ℕ) (j m : ℕ) → slice_get xs j ≡ Some m → In m xs
 in_from_get [] j m h = cc
 in_from_get (x ∷ xs) zero m h = inl cc
@@ -182,29 +175,24 @@ follow_stands graph a at s (Some x) e range h =
 abbrev Closed : List (List ℕ) → Seen → ℕ → Type 0
 Closed graph s at = (j m : ℕ) → j < at → slice_get s.order j ≡ Some m → (b : ℕ) → In b (body graph m) → In b s.order
 
-none_some : (o : Option ℕ) (m : ℕ) → o ≡ None → o ≡ Some m → ⊥
-none_some o m p q = cc
-
-some_same : (o : Option ℕ) (m n : ℕ) → o ≡ Some m → o ≡ Some n → m ≡ n
-some_same o m n p q = cc
-
 follow_closed : (graph : List (List ℕ)) (a at : ℕ) (s : Seen) (o : Option ℕ) → slice_get s.order at ≡ o
     → InRange graph → Stands graph a s → Closed graph s at → Closed graph (follow_by graph o s) (at + 1)
 follow_closed graph a at s None e range h closed j m lt is b i = elim (same_or_not j at) [
-  | inl same ↦ absurd (none_some (slice_get s.order at) m e (subst (λ (k : ℕ). slice_get s.order k ≡ Some m) same is))
+  | inl same ↦ absurd (none-some m (sym e ∙ subst (λ (k : ℕ). slice_get s.order k ≡ Some m) same is))
   | inr not ↦ closed j m (omega arith) is b i
 ]
 follow_closed graph a at s (Some x) e range h closed j m lt is b i =
     let within = slice_get_within s.order at x e in
-    let p = get_some s.order j (omega arith) in
-    let there = see_all_stays (body graph x) s j p.0 p.1 in
-    let same_name : m ≡ p.0 = some_same (slice_get (see_all (body graph x) s).order j) m p.0 is there in
-    let in_body : In b (body graph p.0) = subst (λ (n : ℕ). In b (body graph n)) same_name i in
+    let y = get_or s.order j 0 in
+    let at_j = slice_get-get_or s.order j 0 (omega arith) in
+    let there = see_all_stays (body graph x) s j y at_j in
+    let same_name : m ≡ y = same_Some m y (sym is ∙ there) in
+    let in_body : In b (body graph y) = subst (λ (n : ℕ). In b (body graph n)) same_name i in
     elim (same_or_not j at) [
       | inl same ↦
-          let at_x : p.0 ≡ x = some_same (slice_get s.order at) p.0 x (subst (λ (k : ℕ). slice_get s.order k ≡ Some p.0) same p.1) e in
+          let at_x : y ≡ x = same_Some y x (sym (subst (λ (k : ℕ). slice_get s.order k ≡ Some y) same at_j) ∙ e) in
           see_all_in graph a (body graph x) s (known_body graph a x s range h (in_from_get s.order at x e)) h b (subst (λ (n : ℕ). In b (body graph n)) at_x in_body)
-      | inr not ↦ see_all_grows (body graph x) s b (closed j p.0 (omega arith) p.1 b in_body)
+      | inr not ↦ see_all_grows (body graph x) s b (closed j y (omega arith) at_j b in_body)
     ]
 
 follow_grows : (graph : List (List ℕ)) (s : Seen) (o : Option ℕ) (c : ℕ) → In c s.order

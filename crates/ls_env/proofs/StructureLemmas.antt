@@ -51,16 +51,6 @@ tree_is ds =
     joined_is [] (map (λ s. sole (of_name s ds)) (names_in ds))
     ∙ ap (λ (forms : List StructForm). fold add [] forms) (forms_are ds (names_in ds))
 
-told : (o : Option Defined) (n : ℕ) → structure_status o ≡ status.Deftype n → ⊥
-told None n e = absurd (cc)
-told (Some defined.Typed) n e = absurd (cc)
-told (Some (defined.Structure include)) n e = absurd (cc)
-
--- the tree tells no number
-pub number_told : (tree : Definitions) (name : Symbol) (s : NameStatus) (n : ℕ) → by_tree tree name s ≡ status.Deftype n → s ≡ status.Deftype n
-number_told tree name status.Structure n e = absurd (told (look_up name tree) n e)
-number_told tree name _ n e = e
-
 found : (name : Symbol) (tree : Definitions) (o : Option Defined) → look_up name tree ≡ o → structure_status o ≡ status.Structure → IsStructureOf (types tree) name
 found name tree None e s = absurd (cc)
 found name tree (Some defined.Typed) e s = absurd (cc)

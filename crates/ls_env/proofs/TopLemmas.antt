@@ -118,10 +118,6 @@ pub tops_end : (ds : List Datum) (i : ℕ) (out whole : List Datum) → length d
     → out ≡ whole
 tops_end ds i out whole h all = sym (append-nil out) ∙ sym (ap (λ es. out ++ top_in es) (drop_past ds i h)) ∙ all
 
--- a form behind what was gathered, and then the forms inside it
-pub tops_list : (old : List Datum) (d : Datum) (inner : List Datum) → (old ++ d ∷ []) ++ inner ≡ old ++ d ∷ inner
-tops_list old d inner = append_assoc old (d ∷ []) inner
-
 -- ---- the queries among them
 
 -- no form asks nothing

@@ -2,10 +2,14 @@
 use Rattle.std.proofs.Common.{◌≡◌, refl, sym, ap, subst, ◌∙◌, [], ◌∷◌, ◌++◌, append-nil}
 use Rattle.std.proofs.Common.{Option, Some, None, Bool, true, false, true≢false, is_some, arith}
 use Rattle.std.specs.Prelude.{if◌then◌else◌}
+use Rattle.std.specs.Cmp.{IsEquivalence}
+use Rattle.std.specs.Cmp.Lexicographic.{on_texts_equal}
+use Rattle.std.proofs.lemmas.Cmp.{and_equiv}
 use Rattle.std.proofs.lemmas.Grind.{flat_map-append}
 use Rattle.std.proofs.lemmas.Map.Made.{Contains-tail}
 use Rattle.std.proofs.lemmas.List.Elements.{Contains-append_right, Contains-get_or}
 use Rattle.indexmap.specs.IndexMap.{insert_entry}
+use Rattle.indexmap.proofs.MapLemmas.{insert_entry-absent, absent_from_lookup}
 use Rattle.ls_object.specs.declared.symbol.Symbol.{Symbol}
 use Rattle.ls_object.specs.Symbols.{same_symbol}
 use Rattle.ls_object.specs.Universe.{IsStructureOf}
@@ -13,6 +17,10 @@ use Rattle.ls_object.proofs.SymbolLemmas.{Decides-symbol}
 use Rattle.ls_structs.specs.declared.tree.Defined.{Defined}
 use Rattle.ls_structs.specs.declared.tree.Defined.TheVariants.{Typed, Structure}
 use Rattle.ls_structs.specs.Trees.{Definitions, look_up, type_of, types}
+
+-- the test of symbols is an equivalence
+pub symbols_alike : IsEquivalence same_symbol
+symbols_alike = and_equiv (on_texts_equal (λ (s : Symbol). s.package)) (on_texts_equal (λ (s : Symbol). s.name))
 
 -- a definition behind the others
 pub types_push : (defined : Definitions) (d : Symbol × Defined) → types (defined ++ d ∷ []) ≡ types defined ++ type_of d
@@ -31,11 +39,8 @@ passed name other made defined none = by (same_symbol name other) refl
 -- a name that is not found goes behind the others
 pub goes_behind : (defined : Definitions) (name : Symbol) (made : Defined) → look_up name defined ≡ None
     → insert_entry same_symbol defined name made ≡ defined ++ (name, made) ∷ []
-goes_behind [] name made none = refl
-goes_behind (d ∷ defined) name made none =
-    let rest = passed name d.0 d.1 defined none in
-    ap (λ b. if b then (d.0, made) ∷ defined else d ∷ insert_entry same_symbol defined name made) rest.0
-    ∙ ap (λ l. d ∷ l) (goes_behind defined name made rest.1)
+goes_behind defined name made none =
+    insert_entry-absent same_symbol name made defined (absent_from_lookup (same_symbol name) defined none)
 
 -- a name that is not defined is that of no structure type
 pub undefined_is_no_type : (name : Symbol) (defined : Definitions) → look_up name defined ≡ None

@@ -1,8 +1,7 @@
 -- What a DEFSTRUCT form says (DEFSTRUCT).
-use Rattle.std.specs.Prelude.{◌≡◌, List, [], ◌∷◌, codes, Bool, false, ◌&&◌, if◌then◌else◌}
+use Rattle.std.specs.Prelude.{◌≡◌, List, [], ◌∷◌, Bool, if◌then◌else◌}
 use Rattle.std.specs.Prelude.{Option, Some, None, Result, Ok, Err}
 use Rattle.ls_object.specs.declared.symbol.Symbol.{Symbol}
-use Rattle.ls_object.specs.ObjectText.{is_text}
 use Rattle.ls_reader.specs.declared.datum.Datum.{Datum}
 use Rattle.ls_reader.specs.declared.datum.Form.{Form, out-Form}
 use Rattle.ls_reader.specs.declared.datum.Form.TheOpen.{Form-F}
@@ -10,18 +9,6 @@ use Rattle.ls_structs.specs.declared.fault.StructFault.{StructFault}
 use Rattle.ls_structs.specs.declared.fault.StructFault.TheVariants.{NoName, BadOption, Memory}
 use Rattle.ls_structs.specs.declared.form.StructForm.{StructForm}
 use Rattle.ls_structs.specs.Options.{symbol_of, are_options, are_typed, names_included, at_most_one}
-
-abbrev pub is_operator_form : Form-F Form Datum → Bool
-is_operator_form (Form-F.Symbol s) = is_text s.package (codes "COMMON-LISP") && is_text s.name (codes "DEFSTRUCT")
-is_operator_form _ = false
-
-abbrev pub is_defstruct_list : Form-F Form Datum → Bool
-is_defstruct_list (Form-F.List (operator ∷ args)) = is_operator_form (out-Form operator.form)
-is_defstruct_list _ = false
-
--- whether the operator of a form is DEFSTRUCT
-abbrev pub is_defstruct : Datum → Bool
-is_defstruct d = is_defstruct_list (out-Form d.form)
 
 -- a name with options behind it, where it is a symbol
 abbrev pub name_with : Option Symbol → List Datum → Option (Symbol × List Datum)

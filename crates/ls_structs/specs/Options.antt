@@ -1,7 +1,7 @@
 -- The options of a structure definition (DEFSTRUCT).
 use Rattle.std.specs.Prelude.{ℕ, List, [], ◌∷◌, codes, Bool, true, false, ◌||◌, if◌then◌else◌}
-use Rattle.std.specs.Prelude.{Option, Some, None, is_some}
-use Rattle.std.specs.List.{list_all, list_any, flat_map}
+use Rattle.std.specs.Prelude.{Option, Some, None, is_some, filter_map}
+use Rattle.std.specs.List.{list_all, list_any}
 use Rattle.ls_object.specs.declared.symbol.Symbol.{Symbol}
 use Rattle.ls_object.specs.ObjectText.{is_text}
 use Rattle.ls_reader.specs.declared.datum.Datum.{Datum}
@@ -89,13 +89,9 @@ are_options options = list_all is_option options
 abbrev pub are_typed : List Datum → Bool
 are_typed options = list_any is_type_option options
 
-abbrev pub name_in : Option Symbol → List Symbol
-name_in None = []
-name_in (Some name) = name ∷ []
-
 -- the names that the options include
 abbrev pub names_included : List Datum → List Symbol
-names_included options = flat_map (λ d. name_in (included_by d)) options
+names_included options = filter_map included_by options
 
 -- no name or one, where there are no more
 abbrev pub at_most_one : List Symbol → Option (Option Symbol)

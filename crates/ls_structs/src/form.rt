@@ -22,19 +22,6 @@ pub struct StructForm {
 }
 
 impl StructForm {
-    /// Whether the operator of the form is DEFSTRUCT.
-    pub fn is_one(datum: &Datum) -> bool
-        ensures { result ≡ spec.is_defstruct datum.now }
-    {
-        match &datum.form {
-            Form::List(items) => match items.as_slice() {
-                [operator, ..] => is_operator(operator),
-                [] => false,
-            },
-            _ => false,
-        }
-    }
-
     /// What a DEFSTRUCT form says, or that it has no name, or else an option out of form. The operator and the slots
     /// are not looked at.
     pub fn of(alloc: Global, datum: &Datum) -> Result<StructForm, StructFault>
@@ -53,17 +40,6 @@ impl StructForm {
             typed: are_typed(options),
             rest: datum.copy(alloc)?,
         })
-    }
-}
-
-/// Whether the datum is the symbol DEFSTRUCT.
-fn is_operator(datum: &Datum) -> bool
-    ensures { result ≡ spec.is_operator_form (out-Form datum.now.form) }
-{
-    match &datum.form {
-        Form::Symbol(symbol) => symbol.package.is_ascii_text("COMMON-LISP")
-            && symbol.name.is_ascii_text("DEFSTRUCT"),
-        _ => false,
     }
 }
 
