@@ -28,11 +28,11 @@ abbrev mutual
   bounded_all upper no_more = no_more
   bounded_all upper (also s ss) = also (bounded upper s) (bounded_all upper ss)
 
--- what belongs to the specifier whatever its predicates mean
+-- each object of it belongs to the specifier, whatever its predicates mean
 abbrev pub low : Specifier → Specifier
 low s = bounded false s
 
--- what may belong to it under some meaning of them
+-- each object that belongs to the specifier, under any meaning of them, is in it
 abbrev pub high : Specifier → Specifier
 high s = bounded true s
 
