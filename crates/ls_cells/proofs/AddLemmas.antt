@@ -9,20 +9,20 @@ use Rattle.ls_spec.specs.Specifier.{Specifier}
 use Rattle.ls_spec.specs.Truth.{Learnt}
 use Rattle.ls_cells.specs.declared.rows.Row.{Row}
 use Rattle.ls_cells.specs.Rows.{signs_of, AreLong}
-use Rattle.ls_cells.specs.Cells.{signs_at, HasObject, AddsRows, IsNoCons}
+use Rattle.ls_cells.specs.Cells.{signs_at, bare, HasObject, AddsRows, IsNoCons}
 
 -- the old rows with a row behind them, unless it was there
 abbrev pub with_row : Bool → List Row → Row → List Row
 with_row fresh old row = if fresh then old ++ row ∷ [] else old
 
 -- the truth values of the old rows stay
-with_kept : (fresh : Bool) (old : List Row) (row : Row) (signs : List Bool) → Contains (signs_of old) signs → Contains (signs_of (with_row fresh old row)) signs
+pub with_kept : (fresh : Bool) (old : List Row) (row : Row) (signs : List Bool) → Contains (signs_of old) signs → Contains (signs_of (with_row fresh old row)) signs
 with_kept true old row signs h =
     subst (λ xs. Contains xs signs) (sym (map-append (λ (r : Row). r.signs) old (row ∷ []))) (Contains-append_left (signs_of old) (row.signs ∷ []) signs h)
 with_kept false old row signs h = h
 
 -- those of the row are there
-with_itself : (fresh : Bool) (old : List Row) (row : Row) → MatchBool fresh (¬ Contains (signs_of old) row.signs) (Contains (signs_of old) row.signs) → Contains (signs_of (with_row fresh old row)) row.signs
+pub with_itself : (fresh : Bool) (old : List Row) (row : Row) → MatchBool fresh (¬ Contains (signs_of old) row.signs) (Contains (signs_of old) row.signs) → Contains (signs_of (with_row fresh old row)) row.signs
 with_itself true old row h =
     subst (λ xs. Contains xs row.signs) (sym (map-append (λ (r : Row). r.signs) old (row ∷ []))) (Contains-push (signs_of old) row.signs)
 with_itself false old row h = h
@@ -35,12 +35,12 @@ with_all P false old row p h = h
 -- a row was added, unless it was there, that has the truth values of each object of a class
 pub adds_row : (structures : Structures) (learnt : Learnt) (atoms : List Specifier) (IsOfClass : LispObject → Type 0) (old new : List Row) (row : Row) (fresh : Bool)
     → MatchBool fresh (¬ Contains (signs_of old) row.signs) (Contains (signs_of old) row.signs) → new ≡ with_row fresh old row
-    → HasObject structures learnt atoms row → ((o : LispObject) → IsObject structures o → IsOfClass o → row.signs ≡ signs_at learnt atoms o)
+    → HasObject structures learnt atoms row → ((o : LispObject) → IsObject structures o → IsOfClass o → row.signs ≡ signs_at learnt atoms (bare o))
     → AddsRows structures learnt atoms IsOfClass old new
 adds_row structures learnt atoms IsOfClass old new row fresh is e has same = record {
   kept = λ signs h. subst (λ rows. Contains (signs_of rows) signs) (sym e) (with_kept fresh old row signs h);
   each = λ h. subst (All (HasObject structures learnt atoms)) (sym e) (with_all (HasObject structures learnt atoms) fresh old row has h);
-  all = λ o object of_class. subst (λ rows. Contains (signs_of rows) (signs_at learnt atoms o)) (sym e) (subst (Contains (signs_of (with_row fresh old row))) (same o object of_class) (with_itself fresh old row is));
+  all = λ o object of_class. subst (λ rows. Contains (signs_of rows) (signs_at learnt atoms (bare o))) (sym e) (subst (Contains (signs_of (with_row fresh old row))) (same o object of_class) (with_itself fresh old row is));
 }
 
 -- rows stay long
@@ -61,8 +61,8 @@ module _ (structures : Structures) (learnt : Learnt) (atoms : List Specifier) wh
     all = λ o object. either o object;
   }
     where
-      either : (o : LispObject) → IsObject structures o → P o ⊎ Q o → Contains (signs_of new) (signs_at learnt atoms o)
-      either o object (inl p) = k.kept (signs_at learnt atoms o) (h.all o object p)
+      either : (o : LispObject) → IsObject structures o → P o ⊎ Q o → Contains (signs_of new) (signs_at learnt atoms (bare o))
+      either o object (inl p) = k.kept (signs_at learnt atoms (bare o)) (h.all o object p)
       either o object (inr q) = k.all o object q
 
   -- a class within another

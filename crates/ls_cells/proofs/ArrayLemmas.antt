@@ -13,11 +13,12 @@ use Rattle.ls_arrays.specs.Arrays.{IsArray, IsArrayIn, IsIn}
 use Rattle.ls_arrays.proofs.ArrayLaw.{Decides-in}
 use Rattle.ls_cells.specs.declared.rows.Row.{Row}
 use Rattle.ls_cells.specs.Rows.{signs_of, origin_object}
-use Rattle.ls_cells.specs.Cells.{signs_at, AddsRows}
+use Rattle.ls_cells.specs.Cells.{signs_at, bare, AddsRows}
 use Rattle.ls_cells.specs.steps.Asking.{is_asked, asked_signs, AreSigns}
 use Rattle.ls_cells.specs.steps.Classes.{IsItself}
 use Rattle.ls_cells.proofs.AddLemmas.{with_row, adds_row}
 use Rattle.ls_cells.proofs.ClassLemmas.{same_decided}
+use Rattle.ls_cells.proofs.MarkLemmas.{bare_plain}
 
 -- whether an object is an array in the atom
 pub Decides-asked : (a : ArrayAtom) (o : LispObject) → Decides (is_asked o a) (IsArrayIn a o)
@@ -52,18 +53,18 @@ signs_more asked i a o old new b l e is d f g =
 module _ (structures : Structures) (learnt : Learnt) (atoms : List Specifier) (asked : List ArrayAtom) (right : AreSigns structures learnt atoms asked) where
   -- an array has the truth values of the one that stands for it
   represented : (r o : LispObject) → IsObject structures r → IsArray r → IsObject structures o → IsArray o → AreInSameAtoms (IsIn structures) asked r (plain o)
-      → signs_at learnt atoms r ≡ signs_at learnt atoms o
+      → signs_at learnt atoms (bare r) ≡ signs_at learnt atoms (bare o)
   represented r o r_object r_is object is same =
       right r r_object r_is ∙ same_asked structures asked r (plain o) same ∙ plain_asked asked o is ∙ sym (right o object is)
 
   -- one of those that stand for the arrays has its row
   pub array_step : (before after : List Object) (last : Object) (o : LispObject) (old new : List Row) → before ≡ after ++ last ∷ []
       → AddsRows structures learnt atoms (IsItself (lisp_object last)) old new → IsObject structures (lisp_object last) → IsArray (lisp_object last) → IsObject structures o → IsArray o
-      → IsRepresented (IsIn structures) asked before o ⊎ Contains (signs_of old) (signs_at learnt atoms o) → IsRepresented (IsIn structures) asked after o ⊎ Contains (signs_of new) (signs_at learnt atoms o)
-  array_step before after last o old new e adds last_object last_is object is (inr c) = inr (adds.kept (signs_at learnt atoms o) c)
+      → IsRepresented (IsIn structures) asked before o ⊎ Contains (signs_of old) (signs_at learnt atoms (bare o)) → IsRepresented (IsIn structures) asked after o ⊎ Contains (signs_of new) (signs_at learnt atoms (bare o))
+  array_step before after last o old new e adds last_object last_is object is (inr c) = inr (adds.kept (signs_at learnt atoms (bare o)) c)
   array_step before after last o old new e adds last_object last_is object is (inl (r, there, same)) = by_place (Contains-push_cases after last r (subst (λ xs. Contains xs r) e there))
     where
-      by_place : Contains after r ⊎ (last ≡ r) → IsRepresented (IsIn structures) asked after o ⊎ Contains (signs_of new) (signs_at learnt atoms o)
+      by_place : Contains after r ⊎ (last ≡ r) → IsRepresented (IsIn structures) asked after o ⊎ Contains (signs_of new) (signs_at learnt atoms (bare o))
       by_place (inl h) = inl (r, h, same)
       by_place (inr f) =
           inr (subst (Contains (signs_of new))
@@ -71,8 +72,8 @@ module _ (structures : Structures) (learnt : Learnt) (atoms : List Specifier) (a
           (adds.all (lisp_object last) last_object refl))
 
   -- with none left each array has its row
-  pub array_done : (left : List Object) (o : LispObject) (rows : List Row) → left ≡ [] → IsRepresented (IsIn structures) asked left o ⊎ Contains (signs_of rows) (signs_at learnt atoms o)
-      → Contains (signs_of rows) (signs_at learnt atoms o)
+  pub array_done : (left : List Object) (o : LispObject) (rows : List Row) → left ≡ [] → IsRepresented (IsIn structures) asked left o ⊎ Contains (signs_of rows) (signs_at learnt atoms (bare o))
+      → Contains (signs_of rows) (signs_at learnt atoms (bare o))
   array_done left o rows e (inl (r, there, same)) = absurd (none (subst (λ xs. Contains xs r) e there))
     where
       none : Contains [] r → ⊥
@@ -84,7 +85,7 @@ module _ (structures : Structures) (learnt : Learnt) (atoms : List Specifier) (a
       → MatchBool fresh (¬ Contains (signs_of old) row.signs) (Contains (signs_of old) row.signs) → new ≡ with_row fresh old row
       → IsObject structures x → IsArray x → IsPlain x → origin_object row.origin.value ≡ x → row.signs ≡ asked_signs asked x → AddsRows structures learnt atoms (IsItself x) old new
   array_row row x old new fresh is e object in_class unmarked made signs =
-      let same : row.signs ≡ signs_at learnt atoms x = signs ∙ sym (right x object in_class) in
+      let same : row.signs ≡ signs_at learnt atoms (bare x) = signs ∙ sym (right x object in_class) in
       adds_row structures learnt atoms (IsItself x) old new row fresh is e
-      (record { object = x; is_object = object; plain_form = unmarked ∙ sym made; signs = same })
-      (λ o there f. same ∙ ap (signs_at learnt atoms) (sym f))
+      (record { object = x; is_object = object; plain_form = unmarked ∙ sym made; signs = same ∙ ap (signs_at learnt atoms) (bare_plain x unmarked) })
+      (λ o there f. same ∙ ap (λ y. signs_at learnt atoms (bare y)) (sym f))

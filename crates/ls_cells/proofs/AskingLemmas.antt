@@ -24,7 +24,7 @@ use Rattle.ls_points.specs.Classes.{IsFitAtomOf}
 use Rattle.ls_points.specs.Members.{IsFitIn}
 use Rattle.ls_arrays.specs.declared.atom.ArrayAtom.{ArrayAtom}
 use Rattle.ls_arrays.specs.Arrays.{IsArray, IsFit}
-use Rattle.ls_cells.specs.Cells.{signs_at, IsBuilt}
+use Rattle.ls_cells.specs.Cells.{signs_at, bare}
 use Rattle.ls_cells.specs.steps.Asking.{HasCodesThat, HasShape, IsNotAsked, IsAskedBy, AreAskedBy, is_asked, asked_signs, AreSigns}
 
 -- an array is as the atom asks exactly where its code passes the test, and its shape is as asked
@@ -47,50 +47,50 @@ no_point (point.Number r) c s ns = refl
 no_point (point.Char k) c s ns = refl
 no_point (point.Sym t) c s ns = refl
 
--- the truth value of an atom at an array
-asked_is : (structures : Structures) (learnt : Learnt) (s : Specifier) (a : ArrayAtom) (o : LispObject) → IsAtom s → IsBuilt s → IsAskedBy structures s a → IsLearnt structures learnt s
-    → IsObject structures o → IsArray o → holds learnt s o ≡ is_asked o a
-asked_is structures learnt all_objects a o atom built h known object is = absurd atom
-asked_is structures learnt no_objects a o atom built h known object is = absurd atom
-asked_is structures learnt (and_of ss) a o atom built h known object is = absurd atom
-asked_is structures learnt (or_of ss) a o atom built h known object is = absurd atom
-asked_is structures learnt (not_of s) a o atom built h known object is = absurd atom
-asked_is structures learnt (satisfies p) a o atom built h known object is = absurd built
-asked_is structures learnt (array_any simple dims) a (node marks (array c s ns)) atom built h known object is =
+-- the truth value of an atom at an array, marks left out
+asked_is : (structures : Structures) (learnt : Learnt) (s : Specifier) (a : ArrayAtom) (o : LispObject) → IsAtom s → IsAskedBy structures s a → IsLearnt structures learnt s
+    → IsObject structures o → IsArray o → holds learnt s (bare o) ≡ is_asked o a
+asked_is structures learnt all_objects a o atom h known object is = absurd atom
+asked_is structures learnt no_objects a o atom h known object is = absurd atom
+asked_is structures learnt (and_of ss) a o atom h known object is = absurd atom
+asked_is structures learnt (or_of ss) a o atom h known object is = absurd atom
+asked_is structures learnt (not_of s) a o atom h known object is = absurd atom
+asked_is structures learnt (array_any simple dims) a (node marks (array c s ns)) atom h known object is =
     one_array (λ k. true) simple dims a marks c s ns h.0 h.1 object.1
-asked_is structures learnt (array_of e simple dims) a (node marks (array c s ns)) atom built h known object is =
+asked_is structures learnt (array_of e simple dims) a (node marks (array c s ns)) atom h known object is =
     let same = one_code structures (Belongs structures e) (learnt.code_of e) h.0.0 known h.0.1 in
     ap (λ (k : ℕ). (c == k) && (is_simple_if simple s && matches_dimensions dims ns)) same
     ∙ one_array (λ k. k == h.0.0) simple dims a marks c s ns h.0.2 h.1 object.1
-asked_is structures learnt (string_of simple dim) a (node marks (array c s ns)) atom built h known object is =
+asked_is structures learnt (string_of simple dim) a (node marks (array c s ns)) atom h known object is =
     one_array is_string_code simple (dimensions.Places (dim ∷ [])) a marks c s ns h.0 h.1 object.1
-asked_is structures learnt (eql_to p) a (node marks (array c s ns)) atom built h known object is = no_point p c s ns ∙ no_array a marks c s ns h object.1
-asked_is structures learnt (range_of k lo hi) a (node marks (array c s ns)) atom built h known object is = no_array a marks c s ns h object.1
-asked_is structures learnt (chars_of k) a (node marks (array c s ns)) atom built h known object is = no_array a marks c s ns h object.1
-asked_is structures learnt (symbols_of k) a (node marks (array c s ns)) atom built h known object is = no_array a marks c s ns h object.1
-asked_is structures learnt (kind_of k) a (node marks (array c s ns)) atom built h known object is = no_array a marks c s ns h object.1
-asked_is structures learnt (structure_under y) a (node marks (array c s ns)) atom built h known object is = no_array a marks c s ns h object.1
-asked_is structures learnt any_structure a (node marks (array c s ns)) atom built h known object is = no_array a marks c s ns h object.1
-asked_is structures learnt (cons_of x y) a (node marks (array c s ns)) atom built h known object is = no_array a marks c s ns h object.1
-asked_is structures learnt s a (node marks _) atom built h known object is = absurd is
+asked_is structures learnt (eql_to p) a (node marks (array c s ns)) atom h known object is = no_point p c s ns ∙ no_array a marks c s ns h object.1
+asked_is structures learnt (range_of k lo hi) a (node marks (array c s ns)) atom h known object is = no_array a marks c s ns h object.1
+asked_is structures learnt (chars_of k) a (node marks (array c s ns)) atom h known object is = no_array a marks c s ns h object.1
+asked_is structures learnt (symbols_of k) a (node marks (array c s ns)) atom h known object is = no_array a marks c s ns h object.1
+asked_is structures learnt (kind_of k) a (node marks (array c s ns)) atom h known object is = no_array a marks c s ns h object.1
+asked_is structures learnt (structure_under y) a (node marks (array c s ns)) atom h known object is = no_array a marks c s ns h object.1
+asked_is structures learnt any_structure a (node marks (array c s ns)) atom h known object is = no_array a marks c s ns h object.1
+asked_is structures learnt (satisfies p) a (node marks (array c s ns)) atom h known object is = no_array a marks c s ns h object.1
+asked_is structures learnt (cons_of x y) a (node marks (array c s ns)) atom h known object is = no_array a marks c s ns h object.1
+asked_is structures learnt s a (node marks _) atom h known object is = absurd is
 
 -- the truth values of a list of atoms at an array
 signs_are : (structures : Structures) (learnt : Learnt) (own : Structures) (atoms : List Spec) (asked : List ArrayAtom) (o : LispObject)
-    → AllByRecursion (IsFitIn own) atoms → AllByRecursion IsBuilt (map specifier atoms) → AreAskedBy structures (map specifier atoms) asked
-    → AllByRecursion (IsLearnt structures learnt) (map specifier atoms) → IsObject structures o → IsArray o → signs_at learnt (map specifier atoms) o ≡ asked_signs asked o
-signs_are structures learnt own [] [] o fit built h known object is = refl
-signs_are structures learnt own (s ∷ atoms) (a ∷ asked) o fit built h known object is =
-    let e = asked_is structures learnt (specifier s) a o fit.0.0 built.0 h.0 known.0 object is in
-    let f = signs_are structures learnt own atoms asked o fit.1 built.1 h.1 known.1 object is in
+    → AllByRecursion (IsFitIn own) atoms → AreAskedBy structures (map specifier atoms) asked
+    → AllByRecursion (IsLearnt structures learnt) (map specifier atoms) → IsObject structures o → IsArray o → signs_at learnt (map specifier atoms) (bare o) ≡ asked_signs asked o
+signs_are structures learnt own [] [] o fit h known object is = refl
+signs_are structures learnt own (s ∷ atoms) (a ∷ asked) o fit h known object is =
+    let e = asked_is structures learnt (specifier s) a o fit.0.0 h.0 known.0 object is in
+    let f = signs_are structures learnt own atoms asked o fit.1 h.1 known.1 object is in
     cc
-signs_are structures learnt own [] (a ∷ asked) o fit built h known object is = absurd h
-signs_are structures learnt own (s ∷ atoms) [] o fit built h known object is = absurd h
+signs_are structures learnt own [] (a ∷ asked) o fit h known object is = absurd h
+signs_are structures learnt own (s ∷ atoms) [] o fit h known object is = absurd h
 
 -- so they are the truth values at all arrays
 pub are_signs : (structures : Structures) (learnt : Learnt) (own : Structures) (atoms : List Spec) (asked : List ArrayAtom)
-    → AllByRecursion (IsFitIn own) atoms → AllByRecursion IsBuilt (map specifier atoms) → AreAskedBy structures (map specifier atoms) asked
+    → AllByRecursion (IsFitIn own) atoms → AreAskedBy structures (map specifier atoms) asked
     → AllByRecursion (IsLearnt structures learnt) (map specifier atoms) → AreSigns structures learnt (map specifier atoms) asked
-are_signs structures learnt own atoms asked fit built h known o object is = signs_are structures learnt own atoms asked o fit built h known object is
+are_signs structures learnt own atoms asked fit h known o object is = signs_are structures learnt own atoms asked o fit h known object is
 
 -- what an atom within the limits asks is within them
 fit_one : (own structures : Structures) (s : Specifier) (a : ArrayAtom) → IsFitAtomOf own s → IsAskedBy structures s a → AreSmallDimensions a.dims

@@ -15,10 +15,10 @@ use Rattle.ls_spec.specs.Truth.{Learnt, holds, IsLearnt}
 use Rattle.ls_spec.proofs.TruthLemmas.{holds-Decides}
 use Rattle.ls_cells.specs.declared.rows.Row.{Row}
 use Rattle.ls_cells.specs.Rows.{signs_of, origin_object}
-use Rattle.ls_cells.specs.Cells.{signs_at, AddsRows, IsBuilt}
+use Rattle.ls_cells.specs.Cells.{signs_at, bare, IsNoCons, AddsRows}
 use Rattle.ls_cells.specs.steps.Classes.{IsItself}
 use Rattle.ls_cells.proofs.AddLemmas.{with_row, adds_row}
-use Rattle.ls_cells.proofs.MarkLemmas.{signs_at-plain}
+use Rattle.ls_cells.proofs.MarkLemmas.{bare_flat, bare_plain}
 
 -- two truth values that decide one thing
 pub same_decided : {P Q : Type 0} (a b : Bool) → Decides a P → Decides b Q → (P → Q) → (Q → P) → a ≡ b
@@ -44,28 +44,28 @@ module _ (structures : Structures) (learnt : Learnt) (IsIn : Spec → LispObject
       let f = same_signs atoms x y known.1 same.1 in
       cc
 
-  -- a representative has the truth values of the object that it stands for
-  pub represented_signs : (atoms : List Spec) (r o : LispObject) → AllByRecursion (IsLearnt structures learnt) (map specifier atoms) → AllByRecursion IsBuilt (map specifier atoms)
-      → AreInSameAtoms IsIn atoms r (plain o) → signs_at learnt (map specifier atoms) r ≡ signs_at learnt (map specifier atoms) o
-  represented_signs atoms r o known built same =
-      same_signs atoms r (plain o) known same ∙ signs_at-plain learnt (map specifier atoms) o built
+  -- a representative has the truth values of the object that it stands for, marks left out
+  pub represented_signs : (atoms : List Spec) (r o : LispObject) → AllByRecursion (IsLearnt structures learnt) (map specifier atoms) → IsPlain r → IsNoCons o
+      → AreInSameAtoms IsIn atoms r (plain o) → signs_at learnt (map specifier atoms) (bare r) ≡ signs_at learnt (map specifier atoms) (bare o)
+  represented_signs atoms r o known unmarked flat same =
+      ap (signs_at learnt (map specifier atoms)) (bare_plain r unmarked) ∙ same_signs atoms r (plain o) known same ∙ ap (signs_at learnt (map specifier atoms)) (sym (bare_flat o flat))
 
   -- one of those that stand for the class has its row
-  pub class_step : (atoms : List Spec) (before after : List Object) (last : Object) (o : LispObject) (old new : List Row) → before ≡ after ++ last ∷ [] → All (IsLearnt structures learnt) (map specifier atoms) → All IsBuilt (map specifier atoms)
-      → AddsRows structures learnt (map specifier atoms) (IsItself (lisp_object last)) old new → IsObject structures (lisp_object last)
-      → IsRepresented IsIn atoms before o ⊎ Contains (signs_of old) (signs_at learnt (map specifier atoms) o) → IsRepresented IsIn atoms after o ⊎ Contains (signs_of new) (signs_at learnt (map specifier atoms) o)
-  class_step atoms before after last o old new e known built adds object (inr c) = inr (adds.kept (signs_at learnt (map specifier atoms) o) c)
-  class_step atoms before after last o old new e known built adds object (inl (r, there, same)) = by_place (Contains-push_cases after last r (subst (λ xs. Contains xs r) e there))
+  pub class_step : (atoms : List Spec) (before after : List Object) (last : Object) (o : LispObject) (old new : List Row) → before ≡ after ++ last ∷ [] → All (IsLearnt structures learnt) (map specifier atoms) → IsNoCons o
+      → AddsRows structures learnt (map specifier atoms) (IsItself (lisp_object last)) old new → IsObject structures (lisp_object last) → IsPlain (lisp_object last)
+      → IsRepresented IsIn atoms before o ⊎ Contains (signs_of old) (signs_at learnt (map specifier atoms) (bare o)) → IsRepresented IsIn atoms after o ⊎ Contains (signs_of new) (signs_at learnt (map specifier atoms) (bare o))
+  class_step atoms before after last o old new e known flat adds object unmarked (inr c) = inr (adds.kept (signs_at learnt (map specifier atoms) (bare o)) c)
+  class_step atoms before after last o old new e known flat adds object unmarked (inl (r, there, same)) = by_place (Contains-push_cases after last r (subst (λ xs. Contains xs r) e there))
     where
-      by_place : Contains after r ⊎ (last ≡ r) → IsRepresented IsIn atoms after o ⊎ Contains (signs_of new) (signs_at learnt (map specifier atoms) o)
+      by_place : Contains after r ⊎ (last ≡ r) → IsRepresented IsIn atoms after o ⊎ Contains (signs_of new) (signs_at learnt (map specifier atoms) (bare o))
       by_place (inl h) = inl (r, h, same)
       by_place (inr f) =
           inr (subst (Contains (signs_of new))
-          (represented_signs atoms (lisp_object last) o (recursion_from_All (IsLearnt structures learnt) (map specifier atoms) known) (recursion_from_All IsBuilt (map specifier atoms) built)
+          (represented_signs atoms (lisp_object last) o (recursion_from_All (IsLearnt structures learnt) (map specifier atoms) known) unmarked flat
           (subst (λ x. AreInSameAtoms IsIn atoms (lisp_object x) (plain o)) (sym f) same)) (adds.all (lisp_object last) object refl))
 
   -- with none left each object of the class has its row
-  pub class_done : (atoms : List Spec) (left : List Object) (o : LispObject) (rows : List Row) → left ≡ [] → IsRepresented IsIn atoms left o ⊎ Contains (signs_of rows) (signs_at learnt (map specifier atoms) o) → Contains (signs_of rows) (signs_at learnt (map specifier atoms) o)
+  pub class_done : (atoms : List Spec) (left : List Object) (o : LispObject) (rows : List Row) → left ≡ [] → IsRepresented IsIn atoms left o ⊎ Contains (signs_of rows) (signs_at learnt (map specifier atoms) (bare o)) → Contains (signs_of rows) (signs_at learnt (map specifier atoms) (bare o))
   class_done atoms left o rows e (inl (r, there, same)) = absurd (none (subst (λ xs. Contains xs r) e there))
     where
       none : Contains [] r → ⊥
@@ -80,7 +80,7 @@ object_row structures learnt atoms row x old new fresh is e object unmarked made
     let same : row.signs ≡ signs_at learnt atoms x = signs ∙ ap (signs_at learnt atoms) unmarked in
     adds_row structures learnt atoms (IsItself x) old new row fresh is e
     (record { object = x; is_object = object; plain_form = unmarked ∙ sym made; signs = same })
-    (λ o there f. same ∙ ap (signs_at learnt atoms) (sym f))
+    (λ o there f. same ∙ ap (signs_at learnt atoms) (sym (ap bare f ∙ bare_plain x unmarked)))
 
 -- atoms that fit the structures of a file fit the other classes too
 pub fit_atoms : (own : Structures) (atoms : List Spec) → AllByRecursion (IsFitIn own) atoms → AllByRecursion IsFit atoms

@@ -3,12 +3,11 @@ use Rattle.std.proofs.Common.{ℕ, zero, suc, ◌≡◌, ◌∙◌, sym, ap, ref
 use Rattle.std.specs.Prelude.{All, MatchBool, nat_le, nat_lt}
 use Rattle.std.specs.List.{AllByRecursion, Contains}
 use Rattle.std.proofs.lemmas.List.{length-map}
-use Rattle.ls_object.specs.declared.symbol.Symbol.{Symbol}
 use Rattle.ls_object.specs.Symbols.{nil_symbol}
 use Rattle.ls_object.specs.Universe.{LispObject, node, symbol, pair, Structures, IsObject, plain}
 use Rattle.ls_spec.specs.declared.spec.Point.{Point}
 use Rattle.ls_spec.specs.declared.spec.Point.TheVariants as point
-use Rattle.ls_spec.specs.Specifier.{Specifier, all_objects, no_objects, and_of, or_of, not_of, eql_to, satisfies}
+use Rattle.ls_spec.specs.Specifier.{Specifier, all_objects, no_objects, and_of, or_of, not_of, eql_to}
 use Rattle.ls_spec.specs.Atoms.{atoms_of}
 use Rattle.ls_spec.specs.Truth.{Learnt, holds, is_point}
 use Rattle.ls_spec.proofs.ListLemmas.{AllByRecursion-append, AllByRecursion-weaker, AllByRecursion-contains}
@@ -19,7 +18,7 @@ use Rattle.ls_cells.specs.declared.side.Side.{Side}
 use Rattle.ls_cells.specs.declared.side.Side.TheVariants as side_variant
 use Rattle.ls_cells.specs.Signs.{tabulate}
 use Rattle.ls_cells.specs.Rows.{origin_object, signs_of}
-use Rattle.ls_cells.specs.Cells.{signs_at, HasObject, AreRowsOf, AddsRows, IsCons, IsBuilt}
+use Rattle.ls_cells.specs.Cells.{signs_at, bare, HasObject, AreRowsOf, AddsRows, IsCons}
 use Rattle.ls_cells.specs.steps.Halves.{part_holds, parts_at, ArePartsAmong, AreHalves}
 use Rattle.ls_cells.specs.steps.Pairing.{joined, IsPairOf, Crosses}
 use Rattle.ls_cells.proofs.ColumnLemmas.{in_none}
@@ -27,37 +26,27 @@ use Rattle.ls_cells.proofs.TabulateLemmas.{is_tabulate}
 use Rattle.ls_cells.proofs.AtomLemmas.{IsAtom, atoms_are_atoms, cars_among, cdrs_among, no_car}
 use Rattle.ls_cells.proofs.AddLemmas.{with_row, adds_row}
 use Rattle.ls_cells.proofs.CrossLemmas.{crossed_kept}
-
--- by places, and one after another
-pub one_by_one : {X : Type 0} (P : X → Type 0) (xs : List X) → All P xs → AllByRecursion P xs
-one_by_one P [] h = tt
-one_by_one P (x ∷ xs) h = (h 0 x (omega arith), one_by_one P xs (λ i d l. h (suc i) d (omega arith)))
-
-pub by_places : {X : Type 0} (P : X → Type 0) (xs : List X) → AllByRecursion P xs → All P xs
-by_places P [] h i d l = absurd (omega arith)
-by_places P (x ∷ xs) h zero d l = h.0
-by_places P (x ∷ xs) h (suc i) d l = by_places P xs h.1 i d (omega arith)
+use Rattle.ls_cells.proofs.PlaceLemmas.{one_by_one, by_places}
 
 no_point : (p : Point) (u v : LispObject) → is_point p (pair u v) ≡ false
 no_point (point.Number r) u v = refl
 no_point (point.Char c) u v = refl
 no_point (point.Sym s) u v = refl
 
--- an atom that is no predicate holds at a cons exactly where it is a CONS of which both parts hold
-cons_truth : (learnt : Learnt) (s : Specifier) (marks : List Symbol) (u v : LispObject) → IsAtom s → IsBuilt s → holds learnt s (node marks (pair u v)) ≡ (part_holds learnt (car_of s) u && part_holds learnt (cdr_of s) v)
-cons_truth learnt all_objects marks u v h k = absurd h
-cons_truth learnt no_objects marks u v h k = absurd h
-cons_truth learnt (and_of ss) marks u v h k = absurd h
-cons_truth learnt (or_of ss) marks u v h k = absurd h
-cons_truth learnt (not_of s) marks u v h k = absurd h
-cons_truth learnt (eql_to p) marks u v h k = no_point p u v
-cons_truth learnt (satisfies p) marks u v h k = absurd k
-cons_truth learnt _ marks u v h k = refl
+-- an atom holds at a cons without marks of its own exactly where it is a CONS of which both parts hold
+cons_truth : (learnt : Learnt) (s : Specifier) (u v : LispObject) → IsAtom s → holds learnt s (node [] (pair u v)) ≡ (part_holds learnt (car_of s) u && part_holds learnt (cdr_of s) v)
+cons_truth learnt all_objects u v h = absurd h
+cons_truth learnt no_objects u v h = absurd h
+cons_truth learnt (and_of ss) u v h = absurd h
+cons_truth learnt (or_of ss) u v h = absurd h
+cons_truth learnt (not_of s) u v h = absurd h
+cons_truth learnt (eql_to p) u v h = no_point p u v
+cons_truth learnt _ u v h = refl
 
-pub cons_signs : (learnt : Learnt) (atoms : List Specifier) (marks : List Symbol) (u v : LispObject) → AllByRecursion IsAtom atoms → AllByRecursion IsBuilt atoms
-    → signs_at learnt atoms (node marks (pair u v)) ≡ joined (parts_at learnt side_variant.Car atoms u) (parts_at learnt side_variant.Cdr atoms v)
-cons_signs learnt [] marks u v h k = refl
-cons_signs learnt (s ∷ atoms) marks u v h k = let e = cons_truth learnt s marks u v h.0 k.0 in let f = cons_signs learnt atoms marks u v h.1 k.1 in cc
+pub cons_signs : (learnt : Learnt) (atoms : List Specifier) (u v : LispObject) → AllByRecursion IsAtom atoms
+    → signs_at learnt atoms (node [] (pair u v)) ≡ joined (parts_at learnt side_variant.Car atoms u) (parts_at learnt side_variant.Cdr atoms v)
+cons_signs learnt [] u v h = refl
+cons_signs learnt (s ∷ atoms) u v h = let e = cons_truth learnt s u v h.0 in let f = cons_signs learnt atoms u v h.1 in cc
 
 -- some object gives these truth values to conses, on the side
 record HasPart (structures : Structures) (learnt : Learnt) (on : Side) (atoms : List Specifier) (half : Row) : Type 0 where
@@ -88,7 +77,7 @@ part_all learnt on those atoms (r ∷ rows) (x ∷ halves) o k h (suc i, l, e) =
     let there = more.1 in
     (more.0, (suc there.0, omega (arith, there.1), there.2), more.2)
 
-module _ (structures : Structures) (learnt : Learnt) (list : List Specifier) (built : AllByRecursion IsBuilt (atoms_of list)) where
+module _ (structures : Structures) (learnt : Learnt) (list : List Specifier) where
   -- a pair of rows that have objects has one
   pair_object : (cars cdrs : List Row) → AllByRecursion (HasPart structures learnt side_variant.Car (atoms_of list)) cars → AllByRecursion (HasPart structures learnt side_variant.Cdr (atoms_of list)) cdrs
       → (row : Row) → IsPairOf cars cdrs row → HasObject structures learnt (atoms_of list) row
@@ -100,7 +89,7 @@ module _ (structures : Structures) (learnt : Learnt) (list : List Specifier) (bu
         is_object = (tt, (a.is_object, d.is_object));
         plain_form = ap (λ x. node [] (pair x (plain d.object))) a.plain_form ∙ ap (λ y. node [] (pair (origin_object p.0.origin.value) y)) d.plain_form ∙ sym p.4.object;
         signs = p.4.signs ∙ ap (λ x. joined x p.1.signs) a.signs ∙ ap (joined (parts_at learnt side_variant.Car (atoms_of list) a.object)) d.signs
-            ∙ sym (cons_signs learnt (atoms_of list) [] a.object d.object (atoms_are_atoms list) built);
+            ∙ sym (cons_signs learnt (atoms_of list) a.object d.object (atoms_are_atoms list));
       }
 
   pub pairs_add : (atoms those_cars those_cdrs : List Specifier) (cars cdrs firsts seconds old new : List Row) → atoms ≡ atoms_of list → those_cars ≡ atoms_of (cars_of list) → those_cdrs ≡ atoms_of (cdrs_of list)
@@ -126,11 +115,11 @@ module _ (structures : Structures) (learnt : Learnt) (list : List Specifier) (bu
           (one_by_one (HasObject structures learnt (atoms_of list)) old was)
           (AllByRecursion-weaker (IsPairOf firsts seconds) (HasObject structures learnt (atoms_of list)) (pair_object firsts seconds left_each right_each) c.more c.each)))
 
-      all : (o : LispObject) → IsObject structures o → IsCons o → Contains (signs_of new) (signs_at learnt (atoms_of list) o)
+      all : (o : LispObject) → IsObject structures o → IsCons o → Contains (signs_of new) (signs_at learnt (atoms_of list) (bare o))
       all (node marks (pair u v)) i j =
           let x = part_all learnt side_variant.Car (atoms_of (cars_of list)) (atoms_of list) cars firsts u (cars_among list) left (a.all u i.1.0) in
           let y = part_all learnt side_variant.Cdr (atoms_of (cdrs_of list)) (atoms_of list) cdrs seconds v (cdrs_among list) right (d.all v i.1.1) in
-          subst (Contains (signs_of new)) (ap (λ s. joined s y.0.signs) x.2 ∙ ap (joined (parts_at learnt side_variant.Car (atoms_of list) u)) y.2 ∙ sym (cons_signs learnt (atoms_of list) marks u v (atoms_are_atoms list) built)) (c.all x.0 y.0 x.1 y.1)
+          subst (Contains (signs_of new)) (ap (λ s. joined s y.0.signs) x.2 ∙ ap (joined (parts_at learnt side_variant.Car (atoms_of list) u)) y.2 ∙ sym (cons_signs learnt (atoms_of list) u v (atoms_are_atoms list))) (c.all x.0 y.0 x.1 y.1)
       all (node marks _) i j = absurd j
 
 -- rows all of one length have that of each other
@@ -149,40 +138,37 @@ all_false p (x ∷ xs) h zero = h.0
 all_false p (x ∷ xs) h (suc i) = all_false p xs h.1 i
 
 -- where no atom is a CONS no atom holds at a cons
-no_cons_holds : (learnt : Learnt) (marks : List Symbol) (u v : LispObject) (atoms : List Specifier) → AllByRecursion IsAtom atoms → AllByRecursion IsBuilt atoms → AllByRecursion (λ s. car_of s ≡ []) atoms
-    → AllByRecursion (λ s. holds learnt s (node marks (pair u v)) ≡ false) atoms
-no_cons_holds learnt marks u v [] h k n = tt
-no_cons_holds learnt marks u v (s ∷ atoms) h k n =
-    (cons_truth learnt s marks u v h.0 k.0 ∙ ap (λ parts. part_holds learnt parts u && part_holds learnt (cdr_of s) v) n.0, no_cons_holds learnt marks u v atoms h.1 k.1 n.1)
+no_cons_holds : (learnt : Learnt) (u v : LispObject) (atoms : List Specifier) → AllByRecursion IsAtom atoms → AllByRecursion (λ s. car_of s ≡ []) atoms
+    → AllByRecursion (λ s. holds learnt s (node [] (pair u v)) ≡ false) atoms
+no_cons_holds learnt u v [] h n = tt
+no_cons_holds learnt u v (s ∷ atoms) h n =
+    (cons_truth learnt s u v h.0 ∙ ap (λ parts. part_holds learnt parts u && part_holds learnt (cdr_of s) v) n.0, no_cons_holds learnt u v atoms h.1 n.1)
 
 -- so the truth values of a cons are all false
-pub no_cons_signs : (learnt : Learnt) (list : List Specifier) (count : ℕ) (marks : List Symbol) (u v : LispObject) → length (atoms_of list) ≡ count → AllByRecursion IsBuilt (atoms_of list) → is_none (cars_of list) ≡ true
-    → signs_at learnt (atoms_of list) (node marks (pair u v)) ≡ tabulate count (λ i. nat_le 0 i && nat_lt i 0)
-no_cons_signs learnt list count marks u v e k n =
-    is_tabulate (signs_at learnt (atoms_of list) (node marks (pair u v))) count (λ i. nat_le 0 i && nat_lt i 0) (length-map (atoms_of list) (λ s. holds learnt s (node marks (pair u v))) ∙ e) (λ i l.
-    all_false (λ s. holds learnt s (node marks (pair u v))) (atoms_of list) (no_cons_holds learnt marks u v (atoms_of list) (atoms_are_atoms list) k (no_car list n)) i ∙ sym (in_none i))
+pub no_cons_signs : (learnt : Learnt) (list : List Specifier) (count : ℕ) (u v : LispObject) → length (atoms_of list) ≡ count → is_none (cars_of list) ≡ true
+    → signs_at learnt (atoms_of list) (node [] (pair u v)) ≡ tabulate count (λ i. nat_le 0 i && nat_lt i 0)
+no_cons_signs learnt list count u v e n =
+    is_tabulate (signs_at learnt (atoms_of list) (node [] (pair u v))) count (λ i. nat_le 0 i && nat_lt i 0) (length-map (atoms_of list) (λ s. holds learnt s (node [] (pair u v))) ∙ e) (λ i l.
+    all_false (λ s. holds learnt s (node [] (pair u v))) (atoms_of list) (no_cons_holds learnt u v (atoms_of list) (atoms_are_atoms list) (no_car list n)) i ∙ sym (in_none i))
 
 -- the row of all conses, where no atom is a CONS
 pub cons_adds : (structures : Structures) (learnt : Learnt) (list : List Specifier) (count : ℕ) (row : Row) (old new : List Row) (fresh : Bool) (first second : LispObject)
     → MatchBool fresh (¬ Contains (signs_of old) row.signs) (Contains (signs_of old) row.signs) → new ≡ with_row fresh old row
     → first ≡ node [] (symbol nil_symbol) → second ≡ node [] (symbol nil_symbol) → origin_object row.origin.value ≡ node [] (pair first second) → row.signs ≡ tabulate count (λ i. nat_le 0 i && nat_lt i 0)
-    → length (atoms_of list) ≡ count → All IsBuilt (atoms_of list) → is_none (cars_of list) ≡ true → AddsRows structures learnt (atoms_of list) IsCons old new
-cons_adds structures learnt list count row old new fresh first second f added a d o s e built n = adds_row structures learnt (atoms_of list) IsCons old new row fresh f added has same
+    → length (atoms_of list) ≡ count → is_none (cars_of list) ≡ true → AddsRows structures learnt (atoms_of list) IsCons old new
+cons_adds structures learnt list count row old new fresh first second f added a d o s e n = adds_row structures learnt (atoms_of list) IsCons old new row fresh f added has same
   where
     nil : LispObject
     nil = node [] (symbol nil_symbol)
-
-    each : AllByRecursion IsBuilt (atoms_of list)
-    each = one_by_one IsBuilt (atoms_of list) built
 
     has : HasObject structures learnt (atoms_of list) row
     has = record {
       object = node [] (pair nil nil);
       is_object = (tt, (nil_object structures, nil_object structures));
       plain_form = sym (o ∙ ap (λ x. node [] (pair x second)) a ∙ ap (λ y. node [] (pair nil y)) d);
-      signs = s ∙ sym (no_cons_signs learnt list count [] nil nil e each n);
+      signs = s ∙ sym (no_cons_signs learnt list count nil nil e n);
     }
 
-    same : (x : LispObject) → IsObject structures x → IsCons x → row.signs ≡ signs_at learnt (atoms_of list) x
-    same (node marks (pair u v)) i j = s ∙ sym (no_cons_signs learnt list count marks u v e each n)
+    same : (x : LispObject) → IsObject structures x → IsCons x → row.signs ≡ signs_at learnt (atoms_of list) (bare x)
+    same (node marks (pair u v)) i j = s ∙ sym (no_cons_signs learnt list count u v e n)
     same (node marks _) i j = absurd j

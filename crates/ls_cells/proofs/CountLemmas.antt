@@ -1,14 +1,15 @@
 -- How many rows there can be: no more than all truth values, and than candidates and pairs.
-use Rattle.std.proofs.Common.{ℕ, zero, suc, min, ◌≡◌, ◌+◌, ◌-◌, ◌*◌, ◌^◌, ◌≤◌, ◌<◌, refl, sym, ap, subst, arith, Bool, true, false, if◌then◌else◌, List, [], ◌∷◌, length, get_or, AllPairs, All}
+use Rattle.std.proofs.Common.{ℕ, zero, suc, min, ◌≡◌, ◌+◌, ◌-◌, ◌*◌, ◌^◌, ◌≤◌, ◌<◌, refl, sym, ap, ◌∙◌, subst, arith, Bool, true, false, List, [], ◌∷◌, length, get_or, AllPairs}
 use Rattle.std.specs.Bool.{beq}
-use Rattle.std.specs.List.{AllByRecursion, IsDistinct, count_by}
+use Rattle.std.specs.List.{AllByRecursion, IsDistinct}
 use Rattle.std.specs.Cmp.{booleans_Decides}
 use Rattle.std.specs.Cmp.Lexicographic.{pointwise, pointwise_decides}
 use Rattle.std.proofs.Math.Nat.{pow-suc}
+use Rattle.std.proofs.lemmas.Nat.{pow-add}
 use Rattle.std.proofs.lemmas.List.{length-map}
 use Rattle.std.proofs.lemmas.List.Elements.{recursion_from_All, All-map}
-use Rattle.std.proofs.lemmas.List.Sums.{sum_by-cons}
-use Rattle.ls_spec.specs.Specifier.{Specifier, satisfies}
+use Rattle.std.proofs.lemmas.List.Sums.{count_by-le-length}
+use Rattle.ls_spec.specs.Specifier.{Specifier}
 use Rattle.ls_spec.specs.Atoms.{atoms_of}
 use Rattle.ls_lists.specs.Candidates.{is_predicate, candidates, predicates}
 use Rattle.ls_lists.specs.Sides.{cars_of, cdrs_of}
@@ -16,7 +17,6 @@ use Rattle.ls_lists.specs.Walks.{rows_with, rows, is_none}
 use Rattle.ls_lists.proofs.RowLemmas.{rows_some}
 use Rattle.ls_cells.specs.declared.rows.Row.{Row}
 use Rattle.ls_cells.specs.Rows.{signs_of, AreLong, AreDifferent}
-use Rattle.ls_cells.specs.Cells.{IsBuilt}
 
 -- keys that are distinct, as pairs
 different_from : (x : List Bool) (xs : List (List Bool)) (j : ℕ) (d : List Bool) → AllByRecursion (λ y. pointwise beq x y ≡ false) xs → j < length xs → x ≡ get_or xs j d → ⊥
@@ -122,36 +122,25 @@ at_most_power n these long different =
     (recursion_from_All (λ x. length x ≡ n) (signs_of these) (All-map (λ x. length x ≡ n) (λ (r : Row). r.signs) these long)) (distinct_pairs (signs_of these) different) in
     omega arith
 
-built_no_predicate : (s : Specifier) → IsBuilt s → is_predicate s ≡ false
-built_no_predicate (satisfies p) h = absurd h
-built_no_predicate _ h = refl
+times_min : (a b c r : ℕ) → r ≤ a * b → r ≤ a * c → r ≤ a * min b c
+times_min a b c r h l = by (b - c) (c - b) refl refl
+  where
+    by : (x y : ℕ) → x ≡ b - c → y ≡ c - b → r ≤ a * min b c
+    by zero y e f = (let m : min b c ≡ b = omega arith in subst (λ k. r ≤ a * k) (sym m) h)
+    by (suc x) y e f = (let m : min b c ≡ c = omega arith in subst (λ k. r ≤ a * k) (sym m) l)
 
-abbrev one : Bool → ℕ
-one b = if b then 1 else 0
-
--- atoms without predicates
-no_predicates : (atoms : List Specifier) → AllByRecursion IsBuilt atoms → count_by is_predicate atoms ≡ 0
-no_predicates [] h = refl
-no_predicates (s ∷ atoms) h =
-    let e = sum_by-cons (λ x. one (is_predicate x)) s atoms in
-    let f = no_predicates atoms h.1 in
-    let g : one (is_predicate s) ≡ 0 = ap one (built_no_predicate s h.0) in
-    omega arith
-
-least : (k n c r : ℕ) → k ≡ 0 → r ≤ 2 ^ n → r ≤ c → r ≤ 2 ^ k * min (2 ^ (n - k)) c
-least k n c r e h l =
-    subst (λ x. r ≤ 2 ^ x * min (2 ^ (n - x)) c) (sym e)
-    (let f : 2 ^ (n - 0) ≡ 2 ^ n = ap (λ x. 2 ^ x) (omega arith) in omega arith)
-
--- rows of a list without predicates, from a count of the pairs
-pub at_most_rows_with : (list : List Specifier) (these : List Row) (pairs : ℕ) → All IsBuilt (atoms_of list) → AreLong (length (atoms_of list)) these → AreDifferent these
-    → length these ≤ candidates list + pairs → length these ≤ rows_with pairs list
-at_most_rows_with list these pairs built long different few =
-    least (predicates list) (length (atoms_of list)) (candidates list + pairs) (length these)
-    (no_predicates (atoms_of list) (recursion_from_All IsBuilt (atoms_of list) built)) (at_most_power (length (atoms_of list)) these long different) few
+-- rows of a list, from a count of the pairs
+pub at_most_rows_with : (list : List Specifier) (these : List Row) (pairs : ℕ) → AreLong (length (atoms_of list)) these → AreDifferent these
+    → length these ≤ 2 ^ predicates list * (candidates list + pairs) → length these ≤ rows_with pairs list
+at_most_rows_with list these pairs long different few =
+    let k = predicates list in
+    let n = length (atoms_of list) in
+    let l : k ≤ n = count_by-le-length is_predicate (atoms_of list) in
+    let e : 2 ^ n ≡ 2 ^ k * 2 ^ (n - k) = ap (λ m. 2 ^ m) (omega (arith, l)) ∙ pow-add 2 k (n - k) in
+    times_min (2 ^ k) (2 ^ (n - k)) (candidates list + pairs) (length these) (subst (λ m. length these ≤ m) e (at_most_power n these long different)) few
 
 -- rows of a list are at most those that it may have
-pub at_most_rows : (list : List Specifier) (these : List Row) → is_none list ≡ false → All IsBuilt (atoms_of list) → AreLong (length (atoms_of list)) these → AreDifferent these
-    → length these ≤ candidates list + rows (cars_of list) * rows (cdrs_of list) → length these ≤ rows list
-at_most_rows list these some built long different few =
-    subst (λ n. length these ≤ n) (sym (rows_some list some)) (at_most_rows_with list these (rows (cars_of list) * rows (cdrs_of list)) built long different few)
+pub at_most_rows : (list : List Specifier) (these : List Row) → is_none list ≡ false → AreLong (length (atoms_of list)) these → AreDifferent these
+    → length these ≤ 2 ^ predicates list * (candidates list + rows (cars_of list) * rows (cdrs_of list)) → length these ≤ rows list
+at_most_rows list these some long different few =
+    subst (λ n. length these ≤ n) (sym (rows_some list some)) (at_most_rows_with list these (rows (cars_of list) * rows (cdrs_of list)) long different few)

@@ -17,7 +17,6 @@ use Rattle.ls_spec.proofs.DistinctLemmas.{Decides-same, all_of_distinct}
 use Rattle.ls_spec.proofs.ListLemmas.{AllByRecursion-append, AllByRecursion-weaker}
 use Rattle.ls_lists.specs.Sides.{car_of, cdr_of, cars_of, cdrs_of}
 use Rattle.ls_points.specs.Classes.{IsFitAtomOf}
-use Rattle.ls_cells.specs.Cells.{IsBuilt, AreBuilt}
 use Rattle.ls_cells.specs.Codes.{Codes, AreUpgraded, IsKnown, HasCodes, HaveCodes}
 
 -- it holds of each
@@ -110,14 +109,6 @@ fits_down structures = record {
   of_cdr = λ a b h. (h.0.1, (h.1.0.1, (let d = h.1.1 in omega arith)));
 }
 
--- specifiers that are built
-built_each : (ss : Specifiers) → AreBuilt ss → AllOf IsBuilt ss
-built_each no_more h = tt
-built_each (also s ss) h = (h.0, built_each ss h.1)
-
-pub built_down : GoesDown IsBuilt
-built_down = record { of_and = λ ss h. built_each ss h; of_or = λ ss h. built_each ss h; of_not = λ s h. h; of_car = λ a b h. h.0; of_cdr = λ a b h. h.1 }
-
 -- specifiers of whose element types the codes were learnt
 codes_each : (codes : Codes) (ss : Specifiers) → HaveCodes codes ss → AllOf (HasCodes codes) ss
 codes_each codes no_more h = tt
@@ -154,16 +145,6 @@ pub fit_cdrs : (structures : Structures) (list : List Specifier) → All (Fits s
 fit_cdrs structures list h =
     let P = Fits structures in
     All-from_recursion P (cdrs_of list) (cdrs_have P (fits_down structures) list (atoms_only P (fits_down structures) list (recursion_from_All P list h)))
-
--- and so of lists that are built
-pub built_atoms : (list : List Specifier) → All IsBuilt list → All IsBuilt (atoms_of list)
-built_atoms list h = All-from_recursion IsBuilt (atoms_of list) (atoms_only IsBuilt built_down list (recursion_from_All IsBuilt list h))
-
-pub built_cars : (list : List Specifier) → All IsBuilt list → All IsBuilt (cars_of list)
-built_cars list h = All-from_recursion IsBuilt (cars_of list) (cars_have IsBuilt built_down list (recursion_from_All IsBuilt (atoms_of list) (built_atoms list h)))
-
-pub built_cdrs : (list : List Specifier) → All IsBuilt list → All IsBuilt (cdrs_of list)
-built_cdrs list h = All-from_recursion IsBuilt (cdrs_of list) (cdrs_have IsBuilt built_down list (recursion_from_All IsBuilt (atoms_of list) (built_atoms list h)))
 
 -- and of lists of whose element types the codes were learnt
 pub codes_atoms : (codes : Codes) (list : List Specifier) → All (HasCodes codes) list → All (HasCodes codes) (atoms_of list)
@@ -212,30 +193,30 @@ code_right structures (p ∷ codes) e u k = by (same p.0 e) (Decides-same p.0 e)
     by false d (suc i, l, is) f = f (i, omega arith, is)
 
 mutual
-  -- it is all that has to be known of specifiers that are built
-  learnt_built : (structures : Structures) (codes : Codes) (s : Specifier) → AreUpgraded structures codes → IsInclusionOrder structures → HasCodes codes s → IsBuilt s → IsLearnt structures (learnt_by structures codes) s
-  learnt_built structures codes (and_of ss) u o k h = learnt_all_built structures codes ss u o k h
-  learnt_built structures codes (or_of ss) u o k h = learnt_all_built structures codes ss u o k h
-  learnt_built structures codes (not_of s) u o k h = learnt_built structures codes s u o k h
-  learnt_built structures codes (cons_of a b) u o k h = (learnt_built structures codes a u o k.0 h.0, learnt_built structures codes b u o k.1 h.1)
-  learnt_built structures codes (array_of e simple dims) u o k h = code_right structures codes e u k
-  learnt_built structures codes (structure_under y) u o k h = λ x. Decides-under_in structures x y o
-  learnt_built structures codes all_objects u o k h = tt
-  learnt_built structures codes no_objects u o k h = tt
-  learnt_built structures codes (eql_to p) u o k h = tt
-  learnt_built structures codes (range_of r lo hi) u o k h = tt
-  learnt_built structures codes (chars_of c) u o k h = tt
-  learnt_built structures codes (symbols_of c) u o k h = tt
-  learnt_built structures codes (kind_of c) u o k h = tt
-  learnt_built structures codes any_structure u o k h = tt
-  learnt_built structures codes (array_any simple dims) u o k h = tt
-  learnt_built structures codes (string_of simple dim) u o k h = tt
-  learnt_built structures codes (satisfies p) u o k h = tt
+  -- it is all that has to be known of specifiers whose codes were learnt
+  learnt_coded : (structures : Structures) (codes : Codes) (s : Specifier) → AreUpgraded structures codes → IsInclusionOrder structures → HasCodes codes s → IsLearnt structures (learnt_by structures codes) s
+  learnt_coded structures codes (and_of ss) u o k = learnt_all_coded structures codes ss u o k
+  learnt_coded structures codes (or_of ss) u o k = learnt_all_coded structures codes ss u o k
+  learnt_coded structures codes (not_of s) u o k = learnt_coded structures codes s u o k
+  learnt_coded structures codes (cons_of a b) u o k = (learnt_coded structures codes a u o k.0, learnt_coded structures codes b u o k.1)
+  learnt_coded structures codes (array_of e simple dims) u o k = code_right structures codes e u k
+  learnt_coded structures codes (structure_under y) u o k = λ x. Decides-under_in structures x y o
+  learnt_coded structures codes all_objects u o k = tt
+  learnt_coded structures codes no_objects u o k = tt
+  learnt_coded structures codes (eql_to p) u o k = tt
+  learnt_coded structures codes (range_of r lo hi) u o k = tt
+  learnt_coded structures codes (chars_of c) u o k = tt
+  learnt_coded structures codes (symbols_of c) u o k = tt
+  learnt_coded structures codes (kind_of c) u o k = tt
+  learnt_coded structures codes any_structure u o k = tt
+  learnt_coded structures codes (array_any simple dims) u o k = tt
+  learnt_coded structures codes (string_of simple dim) u o k = tt
+  learnt_coded structures codes (satisfies p) u o k = tt
 
-  learnt_all_built : (structures : Structures) (codes : Codes) (ss : Specifiers) → AreUpgraded structures codes → IsInclusionOrder structures → HaveCodes codes ss → AreBuilt ss → AreLearnt structures (learnt_by structures codes) ss
-  learnt_all_built structures codes no_more u o k h = tt
-  learnt_all_built structures codes (also s ss) u o k h = (learnt_built structures codes s u o k.0 h.0, learnt_all_built structures codes ss u o k.1 h.1)
+  learnt_all_coded : (structures : Structures) (codes : Codes) (ss : Specifiers) → AreUpgraded structures codes → IsInclusionOrder structures → HaveCodes codes ss → AreLearnt structures (learnt_by structures codes) ss
+  learnt_all_coded structures codes no_more u o k = tt
+  learnt_all_coded structures codes (also s ss) u o k = (learnt_coded structures codes s u o k.0, learnt_all_coded structures codes ss u o k.1)
 
-pub codes_are_all : (structures : Structures) (codes : Codes) (list : List Specifier) → AreUpgraded structures codes → IsInclusionOrder structures → All (HasCodes codes) list → All IsBuilt list
+pub codes_are_all : (structures : Structures) (codes : Codes) (list : List Specifier) → AreUpgraded structures codes → IsInclusionOrder structures → All (HasCodes codes) list
     → All (IsLearnt structures (learnt_by structures codes)) list
-codes_are_all structures codes list u o k h i d lt = learnt_built structures codes (get_or list i d) u o (k i d lt) (h i d lt)
+codes_are_all structures codes list u o k i d lt = learnt_coded structures codes (get_or list i d) u o (k i d lt)

@@ -1,5 +1,5 @@
 -- What the making of a list behind its cars and its cdrs leaves, and where it was broken off.
-use Rattle.std.proofs.Common.{ℕ, ◌≡◌, ◌≤◌, ◌<◌, ◌+◌, ◌*◌, sym, ◌∙◌, ap, subst, arith, List, [], ◌∷◌, ◌++◌, length, true, false, IsTrue, None, All}
+use Rattle.std.proofs.Common.{ℕ, ◌≡◌, ◌≤◌, ◌<◌, ◌+◌, ◌*◌, ◌^◌, sym, ◌∙◌, ap, subst, arith, List, [], ◌∷◌, ◌++◌, length, true, false, IsTrue, None, All}
 use Rattle.ls_object.specs.declared.table.Code.{Code}
 use Rattle.ls_object.specs.Universe.{Structures}
 use Rattle.ls_spec.specs.Specifier.{Specifier}
@@ -7,7 +7,7 @@ use Rattle.ls_spec.specs.Atoms.{atoms_of}
 use Rattle.ls_spec.specs.Fits.{Fits}
 use Rattle.ls_spec.specs.Truth.{Learnt, IsLearnt}
 use Rattle.ls_lists.specs.Sides.{cars_of, cdrs_of, height}
-use Rattle.ls_lists.specs.Candidates.{candidates}
+use Rattle.ls_lists.specs.Candidates.{candidates, predicates}
 use Rattle.ls_lists.specs.Walks.{part, is_none, among, is_done, walk, rows, IsClosed}
 use Rattle.ls_lists.proofs.FallLemmas.{cars_less, cdrs_less}
 use Rattle.ls_lists.proofs.WalkLemmas.{walk_done, walk_fresh}
@@ -17,14 +17,14 @@ use Rattle.ls_memo.specs.Kept.{kept_for}
 use Rattle.ls_sides.specs.Gathering.{AreSides}
 use Rattle.ls_cells.specs.declared.rows.Row.{Row}
 use Rattle.ls_cells.specs.declared.cells.Cells.{Cells}
-use Rattle.ls_cells.specs.Cells.{AreRowsOf, IsBuilt}
+use Rattle.ls_cells.specs.Cells.{AreRowsOf}
 use Rattle.ls_cells.specs.Codes.{Codes, codes_of, AreCodes, HasCodes}
 use Rattle.ls_cells.specs.Rows.{AreDifferent}
 use Rattle.ls_cells.specs.Kept.{lists, count_rows, entries_of, AreRightFor, AreCellsOf, AreKept, Began}
 use Rattle.ls_cells.specs.steps.Filling.{MayMake, Makes, Fills}
 use Rattle.ls_cells.proofs.BeganLemmas.{began_start, began_cars, began_cdrs, began_own, began_all, own_walked, sides_done}
 use Rattle.ls_cells.proofs.CountLemmas.{at_most_rows}
-use Rattle.ls_cells.proofs.DescentLemmas.{fit_cars, fit_cdrs, built_atoms, built_cars, built_cdrs, codes_cars, codes_cdrs}
+use Rattle.ls_cells.proofs.DescentLemmas.{fit_cars, fit_cdrs, codes_cars, codes_cdrs}
 use Rattle.ls_cells.proofs.MakeLemmas.{made_wide}
 use Rattle.ls_cells.proofs.EntryLemmas.{none_kept, kept_more, keys_last, grows_none, grows_both}
 
@@ -143,15 +143,15 @@ absent_after known ids firsts seconds old mid two e f g m n =
     ∙ walk_fresh (specifiers_at known ids) (keys known old) e)
 
 -- then it may be made
-pub may_make : (structures : Structures) (known list : List Specifier) (atoms cars cdrs firsts seconds : List ℕ) (codes : List (List ℕ × Code)) (old mid two : Memo) (s1 s2 : ℕ) → Distinct known → is_none list ≡ false → All (Fits structures) list → All IsBuilt list
+pub may_make : (structures : Structures) (known list : List Specifier) (atoms cars cdrs firsts seconds : List ℕ) (codes : List (List ℕ × Code)) (old mid two : Memo) (s1 s2 : ℕ) → Distinct known → is_none list ≡ false → All (Fits structures) list
     → AreCodes structures known codes → All (HasCodes (codes_of known codes)) list → AreSides known list atoms cars cdrs
     → AreKept structures known old → firsts ≡ cars → seconds ≡ cdrs → keys known mid ≡ walk (specifiers_at known firsts) (keys known old)
     → Fills structures known (specifiers_at known seconds) mid two s1 s2 → keys known two ≡ walk (specifiers_at known seconds) (keys known mid) → MayMake structures known list atoms cars cdrs codes two
-may_make structures known list atoms cars cdrs firsts seconds codes old mid two s1 s2 d some fit built right learnt sides start f g m k n =
+may_make structures known list atoms cars cdrs firsts seconds codes old mid two s1 s2 d some fit right learnt sides start f g m k n =
     let i = m ∙ ap (λ l. walk (specifiers_at known l) (keys known old)) f ∙ ap (λ l. walk l (keys known old)) sides.cars_are in
     let j = n ∙ ap (λ l. walk (specifiers_at known l) (keys known mid)) g ∙ ap (λ l. walk l (keys known mid)) sides.cdrs_are in
     let done = sides_done list (keys known old) (keys known mid) (keys known two) start.closed i j in
-    record { distinct = d; some = some; fit = fit; built = built; right = right; learnt = learnt; sides = sides; kept = k.kept; cars_done = done.0; cdrs_done = done.1 }
+    record { distinct = d; some = some; fit = fit; right = right; learnt = learnt; sides = sides; kept = k.kept; cars_done = done.0; cdrs_done = done.1 }
 
 -- the cars and the cdrs as they are handed on
 pub cars_at : (known list : List Specifier) (atoms cars cdrs shown : List ℕ) → AreSides known list atoms cars cdrs → shown ≡ cars → (specifiers_at known shown ≡ cars_of list) × AllBelow (length known) shown
@@ -160,18 +160,18 @@ cars_at known list atoms cars cdrs shown s e = (ap (specifiers_at known) e ∙ s
 pub cdrs_at : (known list : List Specifier) (atoms cars cdrs shown : List ℕ) → AreSides known list atoms cars cdrs → shown ≡ cdrs → (specifiers_at known shown ≡ cdrs_of list) × AllBelow (length known) shown
 cdrs_at known list atoms cars cdrs shown s e = (ap (specifiers_at known) e ∙ s.cdrs_are, subst (AllBelow (length known)) (sym e) s.cdrs_below)
 
--- they are less high, fit and are built
+-- they are less high, and fit
 pub cars_lower : (known list : List Specifier) (shown : List ℕ) → is_none list ≡ false → specifiers_at known shown ≡ cars_of list → height (specifiers_at known shown) < height list
 cars_lower known list shown some e = subst (λ l. height l < height list) (sym e) (cars_less list some)
 
 pub cdrs_lower : (known list : List Specifier) (shown : List ℕ) → is_none list ≡ false → specifiers_at known shown ≡ cdrs_of list → height (specifiers_at known shown) < height list
 cdrs_lower known list shown some e = subst (λ l. height l < height list) (sym e) (cdrs_less list some)
 
-pub cars_fit : (structures : Structures) (known list : List Specifier) (shown : List ℕ) → specifiers_at known shown ≡ cars_of list → All (Fits structures) list → All IsBuilt list → (All (Fits structures) (specifiers_at known shown)) × All IsBuilt (specifiers_at known shown)
-cars_fit structures known list shown e h k = (subst (All (Fits structures)) (sym e) (fit_cars structures list h), subst (All IsBuilt) (sym e) (built_cars list k))
+pub cars_fit : (structures : Structures) (known list : List Specifier) (shown : List ℕ) → specifiers_at known shown ≡ cars_of list → All (Fits structures) list → All (Fits structures) (specifiers_at known shown)
+cars_fit structures known list shown e h = subst (All (Fits structures)) (sym e) (fit_cars structures list h)
 
-pub cdrs_fit : (structures : Structures) (known list : List Specifier) (shown : List ℕ) → specifiers_at known shown ≡ cdrs_of list → All (Fits structures) list → All IsBuilt list → (All (Fits structures) (specifiers_at known shown)) × All IsBuilt (specifiers_at known shown)
-cdrs_fit structures known list shown e h k = (subst (All (Fits structures)) (sym e) (fit_cdrs structures list h), subst (All IsBuilt) (sym e) (built_cdrs list k))
+pub cdrs_fit : (structures : Structures) (known list : List Specifier) (shown : List ℕ) → specifiers_at known shown ≡ cdrs_of list → All (Fits structures) list → All (Fits structures) (specifiers_at known shown)
+cdrs_fit structures known list shown e h = subst (All (Fits structures)) (sym e) (fit_cdrs structures list h)
 
 -- and so of the codes of their element types
 pub cars_coded : (known list : List Specifier) (shown : List ℕ) (codes : Codes) → specifiers_at known shown ≡ cars_of list → All (HasCodes codes) list → All (HasCodes codes) (specifiers_at known shown)
@@ -183,11 +183,11 @@ cdrs_coded known list shown codes e h = subst (All (HasCodes codes)) (sym e) (co
 -- the cells of a list that was made are right, and its rows no more than it may have
 pub made_cells : (structures : Structures) (known list : List Specifier) (atoms cars cdrs : List ℕ) (codes : List (List ℕ × Code)) (memo : Memo) (found : List Row) (cells : Cells) (s0 s1 : ℕ) → MayMake structures known list atoms cars cdrs codes memo
     → ((learnt : Learnt) → All (IsLearnt structures learnt) (atoms_of list) → AreRowsOf structures learnt (atoms_of list) found) → AreDifferent found
-    → length found + s0 ≤ s1 → s1 ≤ s0 + (candidates list + rows (cars_of list) * rows (cdrs_of list)) → cells.atoms ≡ atoms → cells.rows ≡ found → AreCellsOf structures known list cells
+    → length found + s0 ≤ s1 → s1 ≤ s0 + 2 ^ predicates list * (candidates list + rows (cars_of list) * rows (cdrs_of list)) → cells.atoms ≡ atoms → cells.rows ≡ found → AreCellsOf structures known list cells
 made_cells structures known list atoms cars cdrs codes memo found cells s0 s1 m f different fewer most e g =
     let right : AreRightFor structures list found = record {
       are = f;
-      few = at_most_rows list found m.some (built_atoms list m.built) (made_wide structures known list atoms cars cdrs codes memo found m f) different (omega arith);
+      few = at_most_rows list found m.some (made_wide structures known list atoms cars cdrs codes memo found m f) different (omega arith);
     } in
     record {
       below = subst (AllBelow (length known)) (sym e) m.sides.atoms_below;

@@ -5,7 +5,8 @@ use Rattle.std.proofs.Common.{arith}
 use Rattle.std.proofs.lemmas.List.{length-map}
 use Rattle.std.proofs.lemmas.Nat.Gcd.{IsGcd-from_mod, IsGcd-from_zero}
 use Rattle.ls_object.specs.declared.kind.Kind.TheVariants.{OtherStructure}
-use Rattle.ls_object.specs.Universe.{LispObject, node, number, character, symbol, array, structure, opaque, Structures, IsObject, IsPlain, plain}
+use Rattle.ls_object.specs.declared.symbol.Symbol.{Symbol}
+use Rattle.ls_object.specs.Universe.{LispObject, node, LispShape, number, character, symbol, array, structure, opaque, Structures, IsObject, IsPlain, plain}
 use Rattle.ls_spec.specs.declared.spec.Spec.{Spec}
 use Rattle.ls_spec.specs.declared.spec.Point.TheVariants as point
 use Rattle.ls_spec.specs.Specifier.{Specifier, all_objects, no_objects, and_of, or_of, not_of, eql_to, range_of, chars_of, symbols_of, kind_of, structure_under, any_structure, array_any, array_of, string_of, satisfies}
@@ -17,100 +18,100 @@ use Rattle.ls_cells.specs.declared.idle.Class.TheVariants.{Numbers, Characters, 
 use Rattle.ls_cells.specs.declared.rows.Row.{Row}
 use Rattle.ls_cells.specs.Signs.{tabulate, at}
 use Rattle.ls_cells.specs.Rows.{signs_of, origin_object}
-use Rattle.ls_cells.specs.Cells.{signs_at, AddsRows}
+use Rattle.ls_cells.specs.Cells.{signs_at, bare, IsNoCons, AddsRows}
 use Rattle.ls_cells.specs.steps.Idle.{IsOf, may_hold, is_idle, some_shape}
 use Rattle.ls_cells.proofs.AddLemmas.{with_row, adds_row}
 use Rattle.ls_cells.proofs.ColumnLemmas.{in_none}
 use Rattle.ls_cells.proofs.TabulateLemmas.{is_tabulate}
 
 -- at a number, a character, a symbol, an opaque object, a structure and an array
-at_number : (learnt : Learnt) (s : Specifier) (o : LispObject) → IsOf Numbers o → may_hold Numbers s ≡ false → holds learnt s o ≡ false
+at_number : (learnt : Learnt) (s : Specifier) (o : LispShape) → IsOf Numbers (node [] o) → may_hold Numbers s ≡ false → holds learnt s (node [] o) ≡ false
 at_number learnt all_objects o h e = absurd (true≢false e)
 at_number learnt no_objects o h e = refl
 at_number learnt (and_of ss) o h e = absurd (true≢false e)
 at_number learnt (or_of ss) o h e = absurd (true≢false e)
 at_number learnt (not_of s) o h e = absurd (true≢false e)
-at_number learnt (satisfies p) o h e = absurd (true≢false e)
+at_number learnt (satisfies p) o h e = refl
 at_number learnt (eql_to (point.Number r)) o h e = absurd (true≢false e)
 at_number learnt (range_of k lo hi) o h e = absurd (true≢false e)
-at_number learnt (eql_to (point.Char c)) (node marks (number n d)) h e = refl
-at_number learnt (eql_to (point.Sym s)) (node marks (number n d)) h e = refl
-at_number learnt _ (node marks (number n d)) h e = refl
-at_number learnt _ (node marks _) h e = absurd h
+at_number learnt (eql_to (point.Char c)) (number n d) h e = refl
+at_number learnt (eql_to (point.Sym s)) (number n d) h e = refl
+at_number learnt _ (number n d) h e = refl
+at_number learnt _ _ h e = absurd h
 
-at_character : (learnt : Learnt) (s : Specifier) (o : LispObject) → IsOf Characters o → may_hold Characters s ≡ false → holds learnt s o ≡ false
+at_character : (learnt : Learnt) (s : Specifier) (o : LispShape) → IsOf Characters (node [] o) → may_hold Characters s ≡ false → holds learnt s (node [] o) ≡ false
 at_character learnt all_objects o h e = absurd (true≢false e)
 at_character learnt no_objects o h e = refl
 at_character learnt (and_of ss) o h e = absurd (true≢false e)
 at_character learnt (or_of ss) o h e = absurd (true≢false e)
 at_character learnt (not_of s) o h e = absurd (true≢false e)
-at_character learnt (satisfies p) o h e = absurd (true≢false e)
+at_character learnt (satisfies p) o h e = refl
 at_character learnt (eql_to (point.Char c)) o h e = absurd (true≢false e)
 at_character learnt (chars_of k) o h e = absurd (true≢false e)
-at_character learnt (eql_to (point.Number r)) (node marks (character c)) h e = refl
-at_character learnt (eql_to (point.Sym s)) (node marks (character c)) h e = refl
-at_character learnt _ (node marks (character c)) h e = refl
-at_character learnt _ (node marks _) h e = absurd h
+at_character learnt (eql_to (point.Number r)) (character c) h e = refl
+at_character learnt (eql_to (point.Sym s)) (character c) h e = refl
+at_character learnt _ (character c) h e = refl
+at_character learnt _ _ h e = absurd h
 
-at_symbol : (learnt : Learnt) (s : Specifier) (o : LispObject) → IsOf Symbols o → may_hold Symbols s ≡ false → holds learnt s o ≡ false
+at_symbol : (learnt : Learnt) (s : Specifier) (o : LispShape) → IsOf Symbols (node [] o) → may_hold Symbols s ≡ false → holds learnt s (node [] o) ≡ false
 at_symbol learnt all_objects o h e = absurd (true≢false e)
 at_symbol learnt no_objects o h e = refl
 at_symbol learnt (and_of ss) o h e = absurd (true≢false e)
 at_symbol learnt (or_of ss) o h e = absurd (true≢false e)
 at_symbol learnt (not_of s) o h e = absurd (true≢false e)
-at_symbol learnt (satisfies p) o h e = absurd (true≢false e)
+at_symbol learnt (satisfies p) o h e = refl
 at_symbol learnt (eql_to (point.Sym s)) o h e = absurd (true≢false e)
 at_symbol learnt (symbols_of k) o h e = absurd (true≢false e)
-at_symbol learnt (eql_to (point.Number r)) (node marks (symbol t)) h e = refl
-at_symbol learnt (eql_to (point.Char c)) (node marks (symbol t)) h e = refl
-at_symbol learnt _ (node marks (symbol t)) h e = refl
-at_symbol learnt _ (node marks _) h e = absurd h
+at_symbol learnt (eql_to (point.Number r)) (symbol t) h e = refl
+at_symbol learnt (eql_to (point.Char c)) (symbol t) h e = refl
+at_symbol learnt _ (symbol t) h e = refl
+at_symbol learnt _ _ h e = absurd h
 
-at_opaque : (learnt : Learnt) (s : Specifier) (o : LispObject) → IsOf Opaques o → may_hold Opaques s ≡ false → holds learnt s o ≡ false
+at_opaque : (learnt : Learnt) (s : Specifier) (o : LispShape) → IsOf Opaques (node [] o) → may_hold Opaques s ≡ false → holds learnt s (node [] o) ≡ false
 at_opaque learnt all_objects o h e = absurd (true≢false e)
 at_opaque learnt no_objects o h e = refl
 at_opaque learnt (and_of ss) o h e = absurd (true≢false e)
 at_opaque learnt (or_of ss) o h e = absurd (true≢false e)
 at_opaque learnt (not_of s) o h e = absurd (true≢false e)
-at_opaque learnt (satisfies p) o h e = absurd (true≢false e)
+at_opaque learnt (satisfies p) o h e = refl
 at_opaque learnt (kind_of k) o h e = absurd (true≢false e)
 at_opaque learnt any_structure o h e = absurd (true≢false e)
-at_opaque learnt (eql_to (point.Number r)) (node marks (opaque j)) h e = refl
-at_opaque learnt (eql_to (point.Char c)) (node marks (opaque j)) h e = refl
-at_opaque learnt (eql_to (point.Sym s)) (node marks (opaque j)) h e = refl
-at_opaque learnt _ (node marks (opaque j)) h e = refl
-at_opaque learnt _ (node marks _) h e = absurd h
+at_opaque learnt (eql_to (point.Number r)) (opaque j) h e = refl
+at_opaque learnt (eql_to (point.Char c)) (opaque j) h e = refl
+at_opaque learnt (eql_to (point.Sym s)) (opaque j) h e = refl
+at_opaque learnt _ (opaque j) h e = refl
+at_opaque learnt _ _ h e = absurd h
 
-at_structure : (learnt : Learnt) (s : Specifier) (o : LispObject) → IsOf Structs o → may_hold Structs s ≡ false → holds learnt s o ≡ false
+at_structure : (learnt : Learnt) (s : Specifier) (o : LispShape) → IsOf Structs (node [] o) → may_hold Structs s ≡ false → holds learnt s (node [] o) ≡ false
 at_structure learnt all_objects o h e = absurd (true≢false e)
 at_structure learnt no_objects o h e = refl
 at_structure learnt (and_of ss) o h e = absurd (true≢false e)
 at_structure learnt (or_of ss) o h e = absurd (true≢false e)
 at_structure learnt (not_of s) o h e = absurd (true≢false e)
-at_structure learnt (satisfies p) o h e = absurd (true≢false e)
+at_structure learnt (satisfies p) o h e = refl
 at_structure learnt (structure_under y) o h e = absurd (true≢false e)
 at_structure learnt any_structure o h e = absurd (true≢false e)
-at_structure learnt (eql_to (point.Number r)) (node marks (structure x)) h e = refl
-at_structure learnt (eql_to (point.Char c)) (node marks (structure x)) h e = refl
-at_structure learnt (eql_to (point.Sym s)) (node marks (structure x)) h e = refl
-at_structure learnt _ (node marks (structure x)) h e = refl
-at_structure learnt _ (node marks _) h e = absurd h
+at_structure learnt (eql_to (point.Number r)) (structure x) h e = refl
+at_structure learnt (eql_to (point.Char c)) (structure x) h e = refl
+at_structure learnt (eql_to (point.Sym s)) (structure x) h e = refl
+at_structure learnt _ (structure x) h e = refl
+at_structure learnt _ _ h e = absurd h
 
-at_array : (learnt : Learnt) (s : Specifier) (o : LispObject) → IsOf Arrays o → may_hold Arrays s ≡ false → holds learnt s o ≡ false
+at_array : (learnt : Learnt) (s : Specifier) (o : LispShape) → IsOf Arrays (node [] o) → may_hold Arrays s ≡ false → holds learnt s (node [] o) ≡ false
 at_array learnt all_objects o h e = absurd (true≢false e)
 at_array learnt no_objects o h e = refl
 at_array learnt (and_of ss) o h e = absurd (true≢false e)
 at_array learnt (or_of ss) o h e = absurd (true≢false e)
 at_array learnt (not_of s) o h e = absurd (true≢false e)
-at_array learnt (satisfies p) o h e = absurd (true≢false e)
+at_array learnt (satisfies p) o h e = refl
 at_array learnt (array_any simple dims) o h e = absurd (true≢false e)
 at_array learnt (array_of x simple dims) o h e = absurd (true≢false e)
 at_array learnt (string_of simple dim) o h e = absurd (true≢false e)
-at_array learnt (eql_to (point.Number r)) (node marks (array k simple dims)) h e = refl
-at_array learnt (eql_to (point.Char c)) (node marks (array k simple dims)) h e = refl
-at_array learnt (eql_to (point.Sym s)) (node marks (array k simple dims)) h e = refl
-at_array learnt _ (node marks (array k simple dims)) h e = refl
-at_array learnt _ (node marks _) h e = absurd h
+at_array learnt (eql_to (point.Number r)) (array k simple dims) h e = refl
+at_array learnt (eql_to (point.Char c)) (array k simple dims) h e = refl
+at_array learnt (eql_to (point.Sym s)) (array k simple dims) h e = refl
+at_array learnt _ (array k simple dims) h e = refl
+at_array learnt _ _ h e = absurd h
 
 -- and at the opaque object that is made for structures
 at_other : (learnt : Learnt) (s : Specifier) → may_hold Structs s ≡ false → holds learnt s (node [] (opaque OtherStructure)) ≡ false
@@ -119,7 +120,7 @@ at_other learnt no_objects e = refl
 at_other learnt (and_of ss) e = absurd (true≢false e)
 at_other learnt (or_of ss) e = absurd (true≢false e)
 at_other learnt (not_of s) e = absurd (true≢false e)
-at_other learnt (satisfies p) e = absurd (true≢false e)
+at_other learnt (satisfies p) e = refl
 at_other learnt (structure_under y) e = absurd (true≢false e)
 at_other learnt any_structure e = absurd (true≢false e)
 at_other learnt (kind_of k) e = e
@@ -128,7 +129,7 @@ at_other learnt (eql_to (point.Char c)) e = refl
 at_other learnt (eql_to (point.Sym s)) e = refl
 at_other learnt _ e = refl
 
-in_no_atom : (learnt : Learnt) (class : Class) (s : Specifier) (o : LispObject) → IsOf class o → may_hold class s ≡ false → holds learnt s o ≡ false
+in_no_atom : (learnt : Learnt) (class : Class) (s : Specifier) (o : LispShape) → IsOf class (node [] o) → may_hold class s ≡ false → holds learnt s (node [] o) ≡ false
 in_no_atom learnt Numbers s o h e = at_number learnt s o h e
 in_no_atom learnt Characters s o h e = at_character learnt s o h e
 in_no_atom learnt Symbols s o h e = at_symbol learnt s o h e
@@ -137,12 +138,12 @@ in_no_atom learnt Structs s o h e = at_structure learnt s o h e
 in_no_atom learnt Arrays s o h e = at_array learnt s o h e
 
 made_in_no_atom : (learnt : Learnt) (class : Class) (s : Specifier) → may_hold class s ≡ false → holds learnt s (node [] (some_shape class)) ≡ false
-made_in_no_atom learnt Numbers s e = at_number learnt s (node [] (some_shape Numbers)) tt e
-made_in_no_atom learnt Characters s e = at_character learnt s (node [] (some_shape Characters)) tt e
-made_in_no_atom learnt Symbols s e = at_symbol learnt s (node [] (some_shape Symbols)) tt e
-made_in_no_atom learnt Opaques s e = at_opaque learnt s (node [] (some_shape Opaques)) tt e
+made_in_no_atom learnt Numbers s e = at_number learnt s (some_shape Numbers) tt e
+made_in_no_atom learnt Characters s e = at_character learnt s (some_shape Characters) tt e
+made_in_no_atom learnt Symbols s e = at_symbol learnt s (some_shape Symbols) tt e
+made_in_no_atom learnt Opaques s e = at_opaque learnt s (some_shape Opaques) tt e
 made_in_no_atom learnt Structs s e = at_other learnt s e
-made_in_no_atom learnt Arrays s e = at_array learnt s (node [] (some_shape Arrays)) tt e
+made_in_no_atom learnt Arrays s e = at_array learnt s (some_shape Arrays) tt e
 
 not_true : (b c : Bool) → (not b && c) ≡ true → (b ≡ false) × (c ≡ true)
 not_true true c h = absurd (true≢false (sym h))
@@ -169,10 +170,31 @@ idle_signs learnt class atoms o n count idle out =
     (length-map (map specifier atoms) (λ s. holds learnt s o) ∙ length-map atoms specifier)
     (λ i l. all_false learnt class atoms o (none_can class atoms idle) out i ∙ sym (in_none i)))
 
--- the truth values of an object of an idle class
+-- a class does not ask for marks
+of_class : (class : Class) (marks : List Symbol) (shape : LispShape) → IsOf class (node marks shape) → IsOf class (node [] shape)
+of_class Numbers marks (number n d) h = tt
+of_class Characters marks (character c) h = tt
+of_class Symbols marks (symbol s) h = tt
+of_class Opaques marks (opaque k) h = tt
+of_class Structs marks (structure x) h = tt
+of_class Arrays marks (array c simple dims) h = tt
+of_class _ marks _ h = absurd h
+
+-- no class has conses
+pub class_flat : (class : Class) (o : LispObject) → IsOf class o → IsNoCons o
+class_flat Numbers (node marks (number n d)) h = tt
+class_flat Characters (node marks (character c)) h = tt
+class_flat Symbols (node marks (symbol s)) h = tt
+class_flat Opaques (node marks (opaque k)) h = tt
+class_flat Structs (node marks (structure x)) h = tt
+class_flat Arrays (node marks (array c simple dims)) h = tt
+class_flat _ (node marks _) h = absurd h
+
+-- the truth values of an object of an idle class, marks left out
 pub signs_of_idle : (learnt : Learnt) (class : Class) (atoms : List Spec) (o : LispObject) (n : ℕ) → n ≡ length atoms → is_idle class atoms ≡ true → IsOf class o
-    → tabulate n (λ i. nat_le 0 i && nat_lt i 0) ≡ signs_at learnt (map specifier atoms) o
-signs_of_idle learnt class atoms o n count idle h = idle_signs learnt class atoms o n count idle (λ s e. in_no_atom learnt class s o h e)
+    → tabulate n (λ i. nat_le 0 i && nat_lt i 0) ≡ signs_at learnt (map specifier atoms) (bare o)
+signs_of_idle learnt class atoms (node marks shape) n count idle h =
+    idle_signs learnt class atoms (node [] shape) n count idle (λ s e. in_no_atom learnt class s shape (of_class class marks shape h) e)
 
 -- what is made for a class is an object, without marks
 made_object : (structures : Structures) (class : Class) → IsObject structures (node [] (some_shape class))

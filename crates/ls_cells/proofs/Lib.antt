@@ -12,6 +12,7 @@ pub mod ConsLemmas
 pub mod CountLemmas
 pub mod CrossLemmas
 pub mod DescentLemmas
+pub mod DoubleLemmas
 pub mod EntryLemmas
 pub mod FillLemmas
 pub mod FindLemmas
@@ -26,6 +27,7 @@ pub mod LimitLemmas
 pub mod MakeLemmas
 pub mod MarkLemmas
 pub mod PackedLemmas
+pub mod PlaceLemmas
 pub mod PointLemmas
 pub mod PushLemmas
 pub mod RaiseLemmas

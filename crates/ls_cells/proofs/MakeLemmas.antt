@@ -1,6 +1,6 @@
 -- The rows of a list from those of the flat objects and those of the conses.
 use Rattle.std.proofs.Common.{ℕ, zero, suc, ◌≡◌, ◌≤◌, ◌+◌, ◌*◌, ◌-◌, ◌/◌, ◌^◌, min, refl, sym, ◌∙◌, ap, subst, arith, List, [], ◌∷◌, length, map, Bool, true, false, IsTrue, ◌||◌, None, Some, All}
-use Rattle.std.specs.List.{AllByRecursion, flat_map, Contains}
+use Rattle.std.specs.List.{AllByRecursion, flat_map, count_by, Contains}
 use Rattle.std.proofs.lemmas.List.{length-map}
 use Rattle.std.proofs.lemmas.List.Elements.{All-nil}
 use Rattle.ls_object.specs.Universe.{LispObject, node, number, character, symbol, pair, array, structure, opaque, Structures, IsObject}
@@ -14,7 +14,7 @@ use Rattle.ls_spec.proofs.DistinctLemmas.{all_of_distinct, all_from_distinct}
 use Rattle.ls_spec.proofs.ListLemmas.{AllByRecursion-append}
 use Rattle.ls_spec.proofs.AlikeLemmas.{AllByRecursion-front, AllByRecursion-back}
 use Rattle.ls_lists.specs.Sides.{car_of, cdr_of, cars_of, cdrs_of}
-use Rattle.ls_lists.specs.Candidates.{candidates_of_atoms, candidates, predicates}
+use Rattle.ls_lists.specs.Candidates.{is_predicate, candidates_of_atoms, candidates, predicates}
 use Rattle.ls_lists.specs.Walks.{rows_with, rows, part, is_none, among}
 use Rattle.ls_lists.proofs.RowLemmas.{rows_none, rows_some, part_is}
 use Rattle.ls_points.specs.Classes.{IsFitAtomOf}
@@ -24,18 +24,18 @@ use Rattle.ls_memo.specs.Kept.{kept_for}
 use Rattle.ls_cells.specs.declared.rows.Row.{Row}
 use Rattle.ls_cells.specs.declared.cells.Cells.{Cells}
 use Rattle.ls_cells.specs.Rows.{signs_of}
-use Rattle.ls_cells.specs.Cells.{signs_at, HasObject, AreRowsOf, AddsRows, IsCons, IsNoCons, IsBuilt}
+use Rattle.ls_cells.specs.Cells.{signs_at, bare, HasObject, AreBareRowsOf, AreRowsOf, AddsRows, IsCons, IsNoCons}
 use Rattle.ls_cells.specs.Codes.{codes_of, HasCodes}
 use Rattle.ls_cells.specs.Kept.{lists, entries_of, AreCellsOf}
 use Rattle.ls_cells.specs.steps.Filling.{MayMake}
-use Rattle.ls_cells.proofs.DescentLemmas.{fit_atoms, built_atoms, codes_atoms, learnt_cars, learnt_cdrs, learnt_by, codes_are_all}
+use Rattle.ls_cells.proofs.DescentLemmas.{fit_atoms, codes_atoms, learnt_cars, learnt_cdrs, learnt_by, codes_are_all}
 use Rattle.ls_cells.proofs.EntryLemmas.{not_kept, cells_kept}
 
--- rows of all objects but conses, and then those of the conses, are the rows of all
-pub rows_of_all : (structures : Structures) (learnt : Learnt) (atoms : List Specifier) (flat all : List Row) → AddsRows structures learnt atoms IsNoCons [] flat → AddsRows structures learnt atoms IsCons flat all → AreRowsOf structures learnt atoms all
+-- rows of all objects but conses, and then those of the conses, are the rows of all, marks left out
+pub rows_of_all : (structures : Structures) (learnt : Learnt) (atoms : List Specifier) (flat all : List Row) → AddsRows structures learnt atoms IsNoCons [] flat → AddsRows structures learnt atoms IsCons flat all → AreBareRowsOf structures learnt atoms all
 rows_of_all structures learnt atoms flat all first second = record { each = second.each (first.each (All-nil (HasObject structures learnt atoms))); all = by }
   where
-    by : (o : LispObject) → IsObject structures o → Contains (signs_of all) (signs_at learnt atoms o)
+    by : (o : LispObject) → IsObject structures o → Contains (signs_of all) (signs_at learnt atoms (bare o))
     by (node marks (pair car cdr)) h = second.all (node marks (pair car cdr)) h tt
     by (node marks (number n d)) h = second.kept _ (first.all (node marks (number n d)) h tt)
     by (node marks (character c)) h = second.kept _ (first.all (node marks (character c)) h tt)
@@ -86,16 +86,39 @@ pair_some list = times_some _ _ (rows_positive (cars_of list)) (rows_positive (c
 pub pairs_most : (list : List Specifier) (m n : ℕ) → m ≤ rows (cars_of list) → n ≤ rows (cdrs_of list) → m * n ≤ rows (cars_of list) * rows (cdrs_of list)
 pairs_most list m n h k = times_more m n _ _ h k
 
-scaled : (a b c : ℕ) → 1 ≤ a → 1 ≤ c → b ≤ a * b * c
-scaled (suc a) b (suc c) h k = grind arith
-scaled zero b c h k = absurd (omega arith)
-scaled (suc a) b zero h k = absurd (omega arith)
+scaled : (a c : ℕ) → 1 ≤ c → a ≤ a * c
+scaled a (suc c) h = grind arith
+scaled a zero h = absurd (omega arith)
 
--- what is tried for a list, at least its candidates and pairs
-pub part_enough : (list : List Specifier) → candidates list + rows (cars_of list) * rows (cdrs_of list) ≤ part list
+-- what is tried for a list, at least its candidates and pairs with all truth values of its predicates
+pub part_enough : (list : List Specifier) → 2 ^ predicates list * (candidates list + rows (cars_of list) * rows (cdrs_of list)) ≤ part list
 part_enough list =
-    subst (λ n. candidates list + rows (cars_of list) * rows (cdrs_of list) ≤ n) (sym (part_is list))
-    (scaled (2 ^ predicates list) (candidates list + rows (cars_of list) * rows (cdrs_of list)) (1 + length (atoms_of list) / 64) (power_some (predicates list)) (omega arith))
+    subst (λ n. 2 ^ predicates list * (candidates list + rows (cars_of list) * rows (cdrs_of list)) ≤ n) (sym (part_is list))
+    (scaled (2 ^ predicates list * (candidates list + rows (cars_of list) * rows (cdrs_of list))) (1 + length (atoms_of list) / 64) (omega arith))
+
+-- the steps of the rows of objects without marks of their own, and those of the others behind them
+pub marked_most : (k x s0 s2 s3 l : ℕ) → s2 ≤ s0 + x → l + s0 ≤ s2 → s3 + l ≤ s2 + 2 ^ k * l → s3 ≤ s0 + 2 ^ k * x
+marked_most k x s0 s2 s3 l within made marks = by (2 ^ k) (power_some k) marks
+  where
+    by : (q : ℕ) → 1 ≤ q → s3 + l ≤ s2 + q * l → s3 ≤ s0 + q * x
+    by zero h e = absurd (omega arith)
+    by (suc r) h e =
+        let f : r * l ≤ r * x = times_more r l r x (omega arith) (omega arith) in
+        let g : suc r * l ≡ r * l + l = grind arith in
+        let m : suc r * x ≡ r * x + x = grind arith in
+        omega (arith, e, f, g, m, within, made)
+
+-- the predicates among the atoms as they are handed on
+pub marked_count : (known list : List Specifier) (ids : List ℕ) (specs shown : List Spec) (x y l : ℕ) → shown ≡ specs → map specifier specs ≡ specifiers_at known ids → specifiers_at known ids ≡ atoms_of list
+    → x + l ≤ y + 2 ^ count_by is_predicate (map specifier shown) * l → x + l ≤ y + 2 ^ predicates list * l
+marked_count known list ids specs shown x y l d e f h = subst (λ xs. x + l ≤ y + 2 ^ count_by is_predicate xs * l) (ap (map specifier) d ∙ e ∙ f) h
+
+pub as_many : (known : List Specifier) (ids : List ℕ) (specs : List Spec) → map specifier specs ≡ specifiers_at known ids → length specs ≡ length ids
+as_many known ids specs e = omega (arith, ap length e, length-map specs specifier, length-map ids (at known))
+
+-- without the others they are within the same
+pub bare_most : (k x s0 s2 : ℕ) → s2 ≤ s0 + x → s2 ≤ s0 + 2 ^ k * x
+bare_most k x s0 s2 within = let e = times_more 1 x (2 ^ k) x (power_some k) (omega arith) in omega (arith, e, within)
 
 -- where no atom has a cdr, none has a car
 abbrev Never : Specifier → Type 0
@@ -155,11 +178,11 @@ cells_most structures known list one two first second = pairs_most list _ _ firs
 -- the rows of the conses of a list, from cells of its cars and cells of its cdrs
 pub adds_pairs : (structures : Structures) (learnt : Learnt) (known list : List Specifier) (atoms cars cdrs : List ℕ) (codes : List (List ℕ × Code)) (memo : List (List ℕ × Cells)) (one two : Cells) (old new : List Row) → MayMake structures known list atoms cars cdrs codes memo
     → AreCellsOf structures known (cars_of list) one → AreCellsOf structures known (cdrs_of list) two → All (IsLearnt structures learnt) (atoms_of list)
-    → (specifiers_at known atoms ≡ atoms_of list → All IsBuilt (atoms_of list) → specifiers_at known one.atoms ≡ atoms_of (cars_of list) → specifiers_at known two.atoms ≡ atoms_of (cdrs_of list)
+    → (specifiers_at known atoms ≡ atoms_of list → specifiers_at known one.atoms ≡ atoms_of (cars_of list) → specifiers_at known two.atoms ≡ atoms_of (cdrs_of list)
     → AreRowsOf structures learnt (atoms_of (cars_of list)) one.rows → AreRowsOf structures learnt (atoms_of (cdrs_of list)) two.rows → AddsRows structures learnt (atoms_of list) IsCons old new)
     → AddsRows structures learnt (atoms_of list) IsCons old new
 adds_pairs structures learnt known list atoms cars cdrs codes memo one two old new m first second l f =
-    f m.sides.atoms_are (built_atoms list m.built) first.atoms_are second.atoms_are (first.right.are learnt (learnt_cars structures learnt list l)) (second.right.are learnt (learnt_cdrs structures learnt list l))
+    f m.sides.atoms_are first.atoms_are second.atoms_are (first.right.are learnt (learnt_cars structures learnt list l)) (second.right.are learnt (learnt_cdrs structures learnt list l))
 
 unmapped : (P : Specifier → Type 0) (specs : List Spec) → AllByRecursion P (map specifier specs) → AllByRecursion (λ x. P (specifier x)) specs
 unmapped P [] h = tt
@@ -170,18 +193,15 @@ pub atoms_fit : (structures : Structures) (known list : List Specifier) (atoms c
 atoms_fit structures known list atoms cars cdrs codes memo specs m e =
     unmapped (IsFitAtomOf structures) specs (subst (AllByRecursion (IsFitAtomOf structures)) (sym (e ∙ m.sides.atoms_are)) (fit_atoms structures list m.fit))
 
-pub atoms_built : (structures : Structures) (known list : List Specifier) (atoms cars cdrs : List ℕ) (codes : List (List ℕ × Code)) (memo : List (List ℕ × Cells)) → MayMake structures known list atoms cars cdrs codes memo → All IsBuilt (specifiers_at known atoms)
-atoms_built structures known list atoms cars cdrs codes memo m = subst (All IsBuilt) (sym m.sides.atoms_are) (built_atoms list m.built)
-
 pub atoms_coded : (structures : Structures) (known list : List Specifier) (atoms cars cdrs : List ℕ) (codes : List (List ℕ × Code)) (memo : List (List ℕ × Cells)) → MayMake structures known list atoms cars cdrs codes memo → All (HasCodes (codes_of known codes)) (specifiers_at known atoms)
 atoms_coded structures known list atoms cars cdrs codes memo m = subst (All (HasCodes (codes_of known codes))) (sym m.sides.atoms_are) (codes_atoms (codes_of known codes) list m.learnt)
 
--- right rows of a list that is built are as wide as its atoms
+-- right rows of a list are as wide as its atoms
 pub made_wide : (structures : Structures) (known list : List Specifier) (atoms cars cdrs : List ℕ) (codes : List (List ℕ × Code)) (memo : List (List ℕ × Cells)) (found : List Row) → MayMake structures known list atoms cars cdrs codes memo
     → ((learnt : Learnt) → All (IsLearnt structures learnt) (atoms_of list) → AreRowsOf structures learnt (atoms_of list) found) → All (λ r. length r.signs ≡ length (atoms_of list)) found
 made_wide structures known list atoms cars cdrs codes memo found m f =
     let learnt = learnt_by structures (codes_of known codes) in
-    rows_wide structures learnt (atoms_of list) found (f learnt (codes_are_all structures (codes_of known codes) (atoms_of list) m.right.right m.kept.order (codes_atoms (codes_of known codes) list m.learnt) (built_atoms list m.built)))
+    rows_wide structures learnt (atoms_of list) found (f learnt (codes_are_all structures (codes_of known codes) (atoms_of list) m.right.right m.kept.order (codes_atoms (codes_of known codes) list m.learnt)))
 
 -- the steps of the flat objects, and those of the conses behind them
 pub flat_most : (known list : List Specifier) (atoms : List ℕ) (specs : List Spec) (s0 s1 : ℕ) → specifiers_at known atoms ≡ atoms_of list → map specifier specs ≡ specifiers_at known atoms → s1 ≤ s0 + candidates_of_atoms (map specifier specs) → s1 ≤ s0 + candidates list

@@ -1,7 +1,7 @@
 -- The rows of a list of atoms: which truth values an object can have in them, each with an object that has them.
-use Rattle.std.specs.Prelude.{◌≡◌, Bool, List, map, All, Contains}
+use Rattle.std.specs.Prelude.{◌≡◌, Bool, List, [], map, All, Contains}
 use Rattle.ls_object.specs.Universe.{LispObject, node, pair, Structures, IsObject, plain}
-use Rattle.ls_spec.specs.Specifier.{Specifier, and_of, or_of, not_of, array_of, cons_of, satisfies, Specifiers, no_more, also}
+use Rattle.ls_spec.specs.Specifier.{Specifier}
 use Rattle.ls_spec.specs.Truth.{Learnt, holds}
 use Rattle.ls_cells.specs.declared.rows.Row.{Row}
 use Rattle.ls_cells.specs.Rows.{origin_object, signs_of}
@@ -23,13 +23,24 @@ pub record AreRowsOf (structures : Structures) (learnt : Learnt) (atoms : List S
   pub each : All (HasObject structures learnt atoms) rows
   pub all : (o : LispObject) → IsObject structures o → Contains (signs_of rows) (signs_at learnt atoms o)
 
--- rows were added for a class: none was lost, each has an object if the old ones have, and each object of the class has
--- its row
+-- the object without marks of its own; its parts keep theirs
+abbrev pub bare : LispObject → LispObject
+bare (node marks shape) = node [] shape
+
+-- each row has an object, and each object without marks of its own has its row
+pub record AreBareRowsOf (structures : Structures) (learnt : Learnt) (atoms : List Specifier) (rows : List Row)
+    : Type 0 where
+  pub each : All (HasObject structures learnt atoms) rows
+  pub all : (o : LispObject) → IsObject structures o → Contains (signs_of rows) (signs_at learnt atoms (bare o))
+
+-- rows were added for a class: none was lost, each has an object if the old ones have, and each object of the class
+-- without marks of its own has its row
 pub record AddsRows (structures : Structures) (learnt : Learnt) (atoms : List Specifier)
     (IsOfClass : LispObject → Type 0) (old new : List Row) : Type 0 where
   pub kept : (signs : List Bool) → Contains (signs_of old) signs → Contains (signs_of new) signs
   pub each : All (HasObject structures learnt atoms) old → All (HasObject structures learnt atoms) new
-  pub all : (o : LispObject) → IsObject structures o → IsOfClass o → Contains (signs_of new) (signs_at learnt atoms o)
+  pub all : (o : LispObject) → IsObject structures o → IsOfClass o
+      → Contains (signs_of new) (signs_at learnt atoms (bare o))
 
 -- a cons, with any marks; and any other object
 abbrev pub IsCons : LispObject → Type 0
@@ -39,18 +50,3 @@ IsCons _ = ⊥
 abbrev pub IsNoCons : LispObject → Type 0
 IsNoCons (node marks (pair car cdr)) = ⊥
 IsNoCons _ = Unit {0}
-
--- without predicates, also in element types
-abbrev mutual
-  pub IsBuilt : Specifier → Type 0
-  IsBuilt (and_of ss) = AreBuilt ss
-  IsBuilt (or_of ss) = AreBuilt ss
-  IsBuilt (not_of s) = IsBuilt s
-  IsBuilt (array_of e simple dims) = IsBuilt e
-  IsBuilt (cons_of a b) = IsBuilt a × IsBuilt b
-  IsBuilt (satisfies p) = ⊥
-  IsBuilt _ = Unit {0}
-
-  pub AreBuilt : Specifiers → Type 0
-  AreBuilt no_more = Unit {0}
-  AreBuilt (also s ss) = IsBuilt s × AreBuilt ss

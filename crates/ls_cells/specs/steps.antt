@@ -7,5 +7,6 @@ pub mod Classes
 pub mod Idle
 pub mod Halves
 pub mod Pairing
+pub mod Marking
 pub mod Filling
 pub mod Index

@@ -14,7 +14,7 @@ ghost use Rattle.ls_points.specs.Members as members;
 ghost use Rattle.ls_lists.specs.Candidates.{arrays as arrays_of};
 ghost use Rattle.ls_intern.specs.Places.{at, specifiers_at, AllBelow};
 ghost use Rattle.ls_arrays.specs.Arrays.{IsArray};
-ghost use Rattle.ls_cells.specs.Cells.{AddsRows, IsBuilt};
+ghost use Rattle.ls_cells.specs.Cells.{AddsRows};
 ghost use Rattle.ls_cells.specs.Codes.{codes_of, AreCodes, IsKnown, HasCodes, IsKeyBelow};
 ghost use Rattle.ls_cells.specs.Rows.{AreLong};
 ghost use Rattle.ls_cells.specs.steps.Asking.{IsNotAsked, IsAskedBy, AreAskedBy, asked_signs, AreSigns};
@@ -207,7 +207,6 @@ pub(crate) fn push_arrays<L: Ledger>(
 ) -> Result<(), AllocError>
     requires asked { (structures : Structures) × AllByRecursion (members.IsFitIn structures) atoms.now
         × AreAskedBy structures (map specifier atoms.now) asked.now }
-    requires built { All IsBuilt (map specifier atoms.now) }
     ensures rises { steps.old ≤ steps.new }
     ensures fewer { length rows.new + steps.old ≤ length rows.old + steps.new }
     ensures long { AreLong (length atoms.now) rows.old → AreLong (length atoms.now) rows.new }

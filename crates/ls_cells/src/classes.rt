@@ -10,7 +10,7 @@ ghost use Rattle.ls_spec.specs.Membership.{Belongs};
 ghost use Rattle.ls_spec.specs.Truth.{Learnt, IsLearnt};
 ghost use Rattle.ls_points.specs.Members as members;
 ghost use Rattle.ls_lists.specs.Candidates.{candidates_of_atoms};
-ghost use Rattle.ls_cells.specs.Cells.{signs_at, AddsRows, IsNoCons, IsBuilt};
+ghost use Rattle.ls_cells.specs.Cells.{signs_at, AddsRows, IsNoCons};
 ghost use Rattle.ls_cells.specs.Rows.{AreLong};
 ghost use Rattle.ls_cells.specs.steps.Asking.{AreAskedBy};
 ghost use Rattle.ls_cells.specs.steps.Classes.{IsItself};
@@ -98,9 +98,9 @@ fn push_reps<R: Regions<Atom = Spec>, L: Ledger>(
     rows: &mut Rows,
     steps: &mut Steps<L>,
 ) -> Result<(), AllocError>
+    requires flat { (o : LispObject) → R.IsOfClass regions.now o → IsNoCons o }
     requires fit { AllByRecursion (R.IsFit regions.now) atoms.now }
     requires index { IsIndexOf (map specifier atoms.now) (length atoms.now) index.now }
-    requires built { All IsBuilt (map specifier atoms.now) }
     requires meaning { (structures : Structures) (a : Spec) (o : LispObject)
         → R.IsIn structures a o ↔ Belongs structures (specifier a) o }
     ensures rises { steps.old ≤ steps.new }
@@ -134,7 +134,6 @@ fn push_class<R: Regions<Atom = Spec>, L: Ledger>(
     requires room { 1 ≤ R.limit atoms.now }
     requires fit { AllByRecursion (R.IsFit regions.now) atoms.now }
     requires index { IsIndexOf (map specifier atoms.now) (length atoms.now) index.now }
-    requires built { All IsBuilt (map specifier atoms.now) }
     requires meaning { (structures : Structures) (a : Spec) (o : LispObject)
         → R.IsIn structures a o ↔ Belongs structures (specifier a) o }
     ensures rises { steps.old ≤ steps.new }
@@ -161,7 +160,6 @@ pub(crate) fn push_flat<L: Ledger>(
     steps: &mut Steps<L>,
 ) -> Result<(), AllocError>
     requires fit { AllByRecursion (members.IsFitIn structs.now) atoms.now }
-    requires built { All IsBuilt (map specifier atoms.now) }
     requires asked { AreAskedBy structs.now (map specifier atoms.now) asked.now }
     ensures rises { steps.old ≤ steps.new }
     ensures most { steps.new ≤ steps.old + candidates_of_atoms (map specifier atoms.now) }

@@ -5,7 +5,6 @@ ghost use Rattle.ls_spec.specs.Fits.{Fits};
 ghost use Rattle.ls_lists.specs.Walks.{part, walk};
 ghost use Rattle.ls_intern.specs.Places.{specifiers_at, AllBelow};
 ghost use Rattle.ls_memo.specs.Kept.{kept_for};
-ghost use Rattle.ls_cells.specs.Cells.{IsBuilt};
 ghost use Rattle.ls_cells.specs.Codes.{codes_of, AreCodes, HasCodes};
 ghost use Rattle.ls_cells.specs.Kept.{lists, count_rows, entries_of, AreKept, AreCounted};
 ghost use Rattle.ls_cells.specs.steps.Filling.{MayMake, Makes, Fills};
@@ -85,7 +84,6 @@ impl Kept {
     ) -> Result<(), AllocError>
         requires below { AllBelow (length table.now) list.now }
         requires fit { All (Fits structures.now) (specifiers_at table.now list.now) }
-        requires built { All IsBuilt (specifiers_at table.now list.now) }
         requires codes { AreCodes structures.now table.now codes.now }
         requires learnt { All (HasCodes (codes_of table.now codes.now)) (specifiers_at table.now list.now) }
         requires kept { AreKept structures.now table.now self.old.memo }

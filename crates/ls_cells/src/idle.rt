@@ -1,4 +1,4 @@
-// Classes of objects at which no atom of a list can hold. One row stands for all of such a class, so that no objects
+// Classes of objects at which no atom of a list can hold, marks left out. One row stands for all of such a class, so that no objects
 // need be made that stand for it and none be tested.
 
 ghost use Rattle.std.specs.Prelude.{◌≡◌, ◌≤◌, ◌+◌, [], true, map, length, IfOk, OnOk};
@@ -57,7 +57,7 @@ fn is_other_structure(kind: Kind) -> bool
     Kind::OtherStructure as u8 == kind as u8
 }
 
-/// Whether the atom can hold at an object of the class, by its variant. Where the variant doesn't tell, it can.
+/// Whether the atom can hold at an object of the class without marks of its own, by its variant. Where the variant doesn't tell, it can.
 fn may_hold(class: Class, atom: &Spec) -> bool
     ensures { result ≡ may_hold class (specifier atom.now) }
 {
@@ -84,16 +84,16 @@ fn may_hold(class: Class, atom: &Spec) -> bool
         },
         Spec::StringOf { simple: _, dim: _ } => is_same(class, Class::Arrays),
         Spec::ConsOf(_, _) => false,
+        Spec::Satisfies(_) => false,
         Spec::Nothing => false,
         Spec::All => true,
         Spec::And(_) => true,
         Spec::Or(_) => true,
         Spec::Not(_) => true,
-        Spec::Satisfies(_) => true,
     }
 }
 
-/// Whether none of the atoms can hold at an object of the class. It takes one look at each, and no memory.
+/// Whether none of the atoms can hold at such an object. It takes one look at each, and no memory.
 pub(crate) fn is_idle(class: Class, atoms: &[Spec]) -> bool
     ensures { result ≡ is_idle class atoms.now }
 {

@@ -13,6 +13,7 @@ mod half;
 mod idle;
 mod index;
 mod make;
+mod marks;
 mod names;
 mod origin;
 mod pairs;

@@ -1,6 +1,6 @@
 // The making of the rows of one list.
 
-ghost use Rattle.std.specs.Prelude.{◌≡◌, ◌≤◌, ◌+◌, ◌*◌, ℕ, List, length, map, All, IfOk, OnOk};
+ghost use Rattle.std.specs.Prelude.{◌≡◌, ◌≤◌, ◌+◌, ◌*◌, ◌^◌, ℕ, List, length, map, All, IfOk, OnOk};
 ghost use Rattle.ls_object.specs.declared.table.Code.{Code};
 ghost use Rattle.ls_object.specs.Universe.{Structures};
 ghost use Rattle.ls_spec.specs.Specifier.{Specifier};
@@ -8,15 +8,17 @@ ghost use Rattle.ls_spec.specs.Meaning.{specifier};
 ghost use Rattle.ls_spec.specs.Atoms.{atoms_of};
 ghost use Rattle.ls_spec.specs.Truth.{Learnt, IsLearnt};
 ghost use Rattle.ls_lists.specs.Sides.{cars_of, cdrs_of};
-ghost use Rattle.ls_lists.specs.Candidates.{candidates};
+ghost use Rattle.ls_lists.specs.Candidates.{candidates, predicates};
 ghost use Rattle.ls_lists.specs.Walks as walks;
 ghost use Rattle.ls_intern.specs.Places.{specifiers_at, AllBelow};
 ghost use Rattle.ls_cells.specs.Cells.{IsCons, AreRowsOf, AddsRows};
+ghost use Rattle.ls_cells.specs.Rows.{AreLong};
 ghost use Rattle.ls_cells.specs.steps.Filling.{MayMake};
 
 use crate::arrays::array_atoms;
 use crate::cells::Cells;
 use crate::classes::push_flat;
+use crate::marks::push_marks;
 use crate::pairs::{push_cons, push_pairs};
 use crate::rows::Rows;
 use ls_intern::{Id, Table};
@@ -56,6 +58,7 @@ fn push_conses<L: Ledger>(
         → MayMake structures table.now list sides.now.atoms sides.now.cars sides.now.cdrs codes memo.now
         → steps.new ≤ steps.old + walks.rows (cars_of list) * walks.rows (cdrs_of list) }
     ensures fewer { length rows.new + steps.old ≤ length rows.old + steps.new }
+    ensures long { AreLong (length sides.now.atoms) rows.old → AreLong (length sides.now.atoms) rows.new }
     ensures rows { OnOk result ((structures : Structures) (learnt : Learnt) (list : List Specifier)
         (codes : List (List ℕ × Code))
         → MayMake structures table.now list sides.now.atoms sides.now.cars sides.now.cdrs codes memo.now
@@ -90,7 +93,8 @@ pub fn make<L: Ledger>(
     ensures rises { steps.old ≤ steps.new }
     ensures most { (list : List Specifier)
         → MayMake structures.now table.now list sides.now.atoms sides.now.cars sides.now.cdrs codes.now memo.now
-        → steps.new ≤ steps.old + (candidates list + walks.rows (cars_of list) * walks.rows (cdrs_of list)) }
+        → steps.new ≤ steps.old
+        + 2 ^ predicates list * (candidates list + walks.rows (cars_of list) * walks.rows (cdrs_of list)) }
     ensures fewer { IfOk result (λ rows. length rows + steps.old ≤ steps.new) }
     ensures rows { IfOk result (λ rows. (learnt : Learnt) (list : List Specifier)
         → MayMake structures.now table.now list sides.now.atoms sides.now.cars sides.now.cdrs codes.now memo.now
@@ -102,5 +106,6 @@ pub fn make<L: Ledger>(
     let asked = array_atoms(alloc, table, codes, sides.atoms.as_slice())?;
     push_flat(alloc, structures, &atoms, &asked, &mut rows, steps)?;
     push_conses(alloc, table, sides, memo, &mut rows, steps)?;
+    push_marks(atoms.as_slice(), &mut rows, steps)?;
     Ok(rows)
 }

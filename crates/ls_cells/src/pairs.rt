@@ -11,7 +11,7 @@ ghost use Rattle.ls_lists.specs.Sides.{cars_of, cdrs_of};
 ghost use Rattle.ls_lists.specs.Walks.{is_none};
 ghost use Rattle.ls_intern.specs.Places.{specifiers_at, AllBelow};
 ghost use Rattle.ls_cells.specs.Rows.{origin_object, AreLong};
-ghost use Rattle.ls_cells.specs.Cells.{AreRowsOf, AddsRows, IsBuilt, IsCons};
+ghost use Rattle.ls_cells.specs.Cells.{AreRowsOf, AddsRows, IsCons};
 ghost use Rattle.ls_cells.specs.steps.Pairing.{Crosses};
 
 use crate::cells::Cells;
@@ -124,7 +124,6 @@ pub(crate) fn push_pairs<L: Ledger>(
     ensures long { AreLong (length atoms.now) rows.old → AreLong (length atoms.now) rows.new }
     ensures rows { OnOk result ((structures : Structures) (learnt : Learnt) (list : List Specifier)
         → specifiers_at table.now atoms.now ≡ atoms_of list
-        → All IsBuilt (atoms_of list)
         → specifiers_at table.now cars.now.atoms ≡ atoms_of (cars_of list)
         → specifiers_at table.now cdrs.now.atoms ≡ atoms_of (cdrs_of list)
         → AreRowsOf structures learnt (atoms_of (cars_of list)) cars.now.rows
@@ -160,7 +159,6 @@ pub(crate) fn push_cons<L: Ledger>(
     ensures long { AreLong count rows.old → AreLong count rows.new }
     ensures rows { OnOk result ((structures : Structures) (learnt : Learnt) (list : List Specifier)
         → length (atoms_of list) ≡ count
-        → All IsBuilt (atoms_of list)
         → is_none (cars_of list) ≡ true
         → AddsRows structures learnt (atoms_of list) IsCons rows.old rows.new) }
 {

@@ -7,7 +7,6 @@ ghost use Rattle.ls_spec.specs.Fits.{Fits};
 ghost use Rattle.ls_spec.specs.Membership.{UpgradesTo};
 ghost use Rattle.ls_lists.specs.Walks.{among, walk, reached, total, missing, IsClosed};
 ghost use Rattle.ls_intern.specs.Places.{at, specifiers_at, AllBelow, Extends};
-ghost use Rattle.ls_cells.specs.Cells.{IsBuilt};
 ghost use Rattle.ls_cells.specs.Codes.{AreUpgraded, IsKnown, HasCodes};
 ghost use Rattle.ls_cells.specs.Kept.{structures_in, specifiers_in, codes_in, entries_in, lists, count_rows};
 ghost use Rattle.ls_cells.specs.Kept.{AreCellsOf, Began, Grows};
@@ -139,7 +138,6 @@ impl Store {
     pub fn fill<L: Ledger>(&mut self, list: &[Id], steps: &mut Steps<L>) -> Result<(), AllocError>
         requires below { AllBelow (length (specifiers_in self.old)) list.now }
         requires fit { All (Fits (structures_in self.old)) (specifiers_at (specifiers_in self.old) list.now) }
-        requires built { All IsBuilt (specifiers_at (specifiers_in self.old) list.now) }
         requires learnt { All (HasCodes (codes_in self.old)) (specifiers_at (specifiers_in self.old) list.now) }
         ensures structures { structures_in self.new ≡ structures_in self.old }
         ensures specifiers { specifiers_in self.new ≡ specifiers_in self.old }

@@ -10,7 +10,7 @@ use Rattle.ls_spec.specs.Membership.{UpgradesTo}
 use Rattle.ls_spec.specs.Truth.{Learnt, is_array_with, is_string_code, matches_dimensions}
 use Rattle.ls_arrays.specs.Arrays.{IsArray}
 use Rattle.ls_arrays.specs.declared.atom.ArrayAtom.{ArrayAtom}
-use Rattle.ls_cells.specs.Cells.{signs_at}
+use Rattle.ls_cells.specs.Cells.{signs_at, bare}
 
 -- the codes of the table that are in the set are those that pass the test
 abbrev pub HasCodesThat : (ℕ → Bool) → ArrayAtom → Type 0
@@ -48,7 +48,7 @@ is_asked (node marks shape) a =
 abbrev pub asked_signs : List ArrayAtom → LispObject → List Bool
 asked_signs asked o = map (is_asked o) asked
 
--- at arrays these are the truth values of the specifiers
+-- at arrays these are the truth values of the specifiers, marks left out
 abbrev pub AreSigns : Structures → Learnt → List Specifier → List ArrayAtom → Type 0
 AreSigns structures learnt atoms asked =
-    (o : LispObject) → IsObject structures o → IsArray o → signs_at learnt atoms o ≡ asked_signs asked o
+    (o : LispObject) → IsObject structures o → IsArray o → signs_at learnt atoms (bare o) ≡ asked_signs asked o

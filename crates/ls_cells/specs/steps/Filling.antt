@@ -9,18 +9,16 @@ use Rattle.ls_lists.specs.Walks.{is_none, is_done}
 use Rattle.ls_intern.specs.Places.{specifiers_at, Distinct}
 use Rattle.ls_sides.specs.Gathering.{AreSides}
 use Rattle.ls_cells.specs.declared.cells.Cells.{Cells}
-use Rattle.ls_cells.specs.Cells.{IsBuilt}
 use Rattle.ls_cells.specs.Codes.{codes_of, AreCodes, HasCodes}
 use Rattle.ls_cells.specs.Kept.{lists, count_rows, entries_of, AreCellsOf, AreKept, Began, Grows}
 
--- The rows of a list may be made: it is not empty, fits and is built, the codes of its element types are learnt, these
+-- The rows of a list may be made: it is not empty and fits, the codes of its element types are learnt, these
 -- are its atoms, cars and cdrs by number, and what is wanted for its cars and its cdrs is kept.
 pub record MayMake (structures : Structures) (known list : List Specifier)
     (atoms cars cdrs : List ℕ) (codes : List (List ℕ × Code)) (memo : List (List ℕ × Cells)) : Type 0 where
   pub distinct : Distinct known
   pub some : is_none list ≡ false
   pub fit : All (Fits structures) list
-  pub built : All IsBuilt list
   pub right : AreCodes structures known codes
   pub learnt : All (HasCodes (codes_of known codes)) list
   pub sides : AreSides known list atoms cars cdrs

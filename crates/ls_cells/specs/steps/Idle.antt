@@ -9,7 +9,7 @@ use Rattle.ls_spec.specs.declared.spec.Point.{Point}
 use Rattle.ls_spec.specs.declared.spec.Point.TheVariants as point
 use Rattle.ls_spec.specs.declared.spec.Spec.{Spec}
 use Rattle.ls_spec.specs.Meaning.{specifier}
-use Rattle.ls_spec.specs.Specifier.{Specifier, no_objects, eql_to, range_of, chars_of, symbols_of, kind_of, structure_under, any_structure, array_any, array_of, string_of, cons_of}
+use Rattle.ls_spec.specs.Specifier.{Specifier, all_objects, no_objects, and_of, or_of, not_of, eql_to, range_of, chars_of, symbols_of, kind_of, structure_under, any_structure, array_any, array_of, string_of, cons_of, satisfies}
 use Rattle.ls_spec.specs.Truth.{same_kind}
 use Rattle.ls_points.specs.Classes.{IsNumber, IsCharacter, IsSymbol, IsOpaque}
 use Rattle.ls_arrays.specs.Arrays.{IsArray}
@@ -57,7 +57,8 @@ class_of_point (point.Number r) = Numbers
 class_of_point (point.Char c) = Characters
 class_of_point (point.Sym s) = Symbols
 
--- whether the specifier can hold at an object of the class, by its variant; yes where that doesn't tell
+-- whether the specifier can hold at an object of the class without marks of its own, by its variant; yes where that
+-- doesn't tell
 abbrev pub may_hold : Class → Specifier → Bool
 may_hold class no_objects = false
 may_hold class (eql_to p) = same_class class (class_of_point p)
@@ -71,8 +72,12 @@ may_hold class (array_any simple dims) = same_class class Arrays
 may_hold class (array_of e simple dims) = same_class class Arrays
 may_hold class (string_of simple dim) = same_class class Arrays
 may_hold class (cons_of a b) = false
-may_hold class _ = true
+may_hold class (satisfies p) = false
+may_hold class all_objects = true
+may_hold class (and_of ss) = true
+may_hold class (or_of ss) = true
+may_hold class (not_of s) = true
 
--- none of the atoms can hold at an object of the class
+-- none of the atoms can hold at such an object
 abbrev pub is_idle : Class → List Spec → Bool
 is_idle class atoms = list_all (λ a. not (may_hold class (specifier a))) atoms

@@ -2,7 +2,7 @@ use Rattle.std.proofs.Common.{◌∙◌, ap, arith, length, sym}
 use Rattle.std.proofs.lemmas.List.{length-map}
 use Rattle.ls_object.specs.Meaning.{lisp_object}
 use Rattle.ls_cells.specs.declared.rows.Row.{Row}
-use Rattle.ls_cells.specs.Cells.{signs_at}
+use Rattle.ls_cells.specs.Cells.{signs_at, bare}
 use Rattle.ls_cells.specs.steps.Asking.{is_asked}
 use Rattle.ls_cells.specs.steps.Classes.{IsItself}
 use Rattle.ls_cells.proofs.AddLemmas.{fewer_with, long_with}
@@ -13,7 +13,7 @@ use Rattle.ls_cells.proofs.arrays.push_array.Goals as goal
 pub returns-in-Some-clause-rows : goal.returns-in-Some-clause-rows
 returns-in-Some-clause-rows g c = λ structures learnt atoms right object.
     adds_none structures learnt atoms (IsItself (lisp_object c.args.object)) c.args.rows.now c.in_ok-signs.signs _ c.in-Some.ensures (λ o _ f.
-    c.in_ok-signs.ensures ∙ sym (right (lisp_object c.args.object) object c.requires.class) ∙ ap (signs_at learnt atoms) (sym f))
+    c.in_ok-signs.ensures ∙ sym (right (lisp_object c.args.object) object c.requires.class) ∙ ap (λ x. signs_at learnt atoms (bare x)) (sym f))
 
 pub returns : goal.returns
 returns g c =

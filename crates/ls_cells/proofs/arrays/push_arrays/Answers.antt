@@ -12,7 +12,6 @@ use Rattle.ls_spec.specs.Truth.{Learnt, IsLearnt}
 use Rattle.ls_spec.proofs.AlikeLemmas.{AllByRecursion-front, AllByRecursion-back}
 use Rattle.ls_arrays.specs.declared.atom.ArrayAtom.{ArrayAtom}
 use Rattle.ls_arrays.specs.Arrays.{IsArray}
-use Rattle.ls_cells.specs.Cells.{IsBuilt}
 use Rattle.ls_cells.specs.Rows.{AreLong}
 use Rattle.ls_cells.specs.steps.Asking.{AreSigns}
 use Rattle.ls_cells.proofs.ArrayCountLemmas.{few_arrays, some_array}
@@ -104,7 +103,7 @@ returns-clause-most g c = λ structures h.
 pub returns-clause-rows : goal.returns-clause-rows
 returns-clause-rows g c = λ structures learnt h known.
     let specs = map specifier c.args.atoms.now in
-    let right = are_signs structures learnt c.requires.asked.0 c.args.atoms.now c.args.asked.now c.requires.asked.1 (recursion_from_All IsBuilt specs c.requires.built) h
+    let right = are_signs structures learnt c.requires.asked.0 c.args.atoms.now c.args.asked.now c.requires.asked.1 h
     (recursion_from_All (IsLearnt structures learnt) specs known) in
     record {
       kept = c.loop-object.invariant.kept structures learnt specs right;

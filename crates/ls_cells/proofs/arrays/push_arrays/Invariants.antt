@@ -6,7 +6,7 @@ use Rattle.ls_spec.specs.Specifier.{Specifier}
 use Rattle.ls_spec.specs.Regions.{IsPlainOf, IsRepresented}
 use Rattle.ls_spec.specs.Truth.{Learnt}
 use Rattle.ls_arrays.specs.Arrays.{IsArray, IsIn}
-use Rattle.ls_cells.specs.Cells.{signs_at, HasObject}
+use Rattle.ls_cells.specs.Cells.{signs_at, bare, HasObject}
 use Rattle.ls_cells.specs.Rows.{signs_of, AreLong}
 use Rattle.ls_cells.specs.steps.Asking.{AreSigns}
 use Rattle.ls_cells.proofs.arrays.push_arrays.Given as goal
@@ -24,7 +24,7 @@ invariant-loop-object g l = record {
   each : (structures : Structures) (learnt : Learnt) (specs : List Specifier) → AreSigns structures learnt specs l.asked
       → All (HasObject structures learnt specs) l.initial.rows → All (HasObject structures learnt specs) l.rows;
   all : (structures : Structures) (learnt : Learnt) (specs : List Specifier) → AreSigns structures learnt specs l.asked
-      → (o : LispObject) → IsObject structures o → IsArray o → IsRepresented (IsIn structures) l.asked l.reps o ⊎ Contains (signs_of l.rows) (signs_at learnt specs o);
+      → (o : LispObject) → IsObject structures o → IsArray o → IsRepresented (IsIn structures) l.asked l.reps o ⊎ Contains (signs_of l.rows) (signs_at learnt specs (bare o));
 }
 
 abbrev pub decreases-loop-object : goal.decreases-loop-object

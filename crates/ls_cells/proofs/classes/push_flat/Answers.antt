@@ -64,8 +64,8 @@ push_class-requires-4-clause-index g c = same_atoms c.args.atoms.now c.as_slice.
 pub push_class-requires-5-clause-index : goal.push_class-requires-5-clause-index
 push_class-requires-5-clause-index g c = same_atoms c.args.atoms.now c.as_slice.result.now c.in_ok-index.index c.as_slice.ensures c.in_ok-index.ensures
 
-pub push_arrays-requires-clause-asked : goal.push_arrays-requires-clause-asked
-push_arrays-requires-clause-asked g c = (c.args.structs.now, c.requires.fit, c.requires.asked)
+pub push_arrays-requires : goal.push_arrays-requires
+push_arrays-requires g c = record { asked = (c.args.structs.now, c.requires.fit, c.requires.asked) }
 
 pub returns : goal.returns
 returns g c = record {

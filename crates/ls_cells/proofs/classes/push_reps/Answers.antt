@@ -40,7 +40,9 @@ loop-object-preserved g c =
       each = λ structures learnt over known h. (adds structures learnt over known).each (c.loop-object.invariant.each structures learnt over known h);
       all = λ structures learnt over known o is_object of_class.
           class_step structures learnt (g.R.Regions.IsIn structures) (c.requires.meaning structures) atoms c.loop-object.reps after last o c.loop-object.rows c.push_object.new.rows c.in-Some.ensures
-          known c.requires.built (adds structures learnt over known) (object structures over) (c.loop-object.invariant.all structures learnt over known o is_object of_class);
+          known (c.requires.flat o of_class) (adds structures learnt over known) (object structures over)
+          (AllByRecursion-back (λ r. IsPlainOf (g.R.Regions.IsOfClass c.args.regions.now) (lisp_object r)) after (last ∷ [])
+          (subst (AllByRecursion (λ r. IsPlainOf (g.R.Regions.IsOfClass c.args.regions.now) (lisp_object r))) c.in-Some.ensures c.loop-object.invariant.plain)).0.0 (c.loop-object.invariant.all structures learnt over known o is_object of_class);
     }
 
 pub returns : goal.returns

@@ -6,7 +6,7 @@ use Rattle.ls_spec.specs.Meaning.{specifier}
 use Rattle.ls_spec.specs.Regions.{IsPlainOf, IsRepresented}
 use Rattle.ls_spec.specs.Truth.{Learnt, IsLearnt}
 use Rattle.ls_cells.specs.Rows.{signs_of, AreLong}
-use Rattle.ls_cells.specs.Cells.{signs_at, HasObject}
+use Rattle.ls_cells.specs.Cells.{signs_at, bare, HasObject}
 use Rattle.ls_cells.proofs.classes.push_reps.Given as goal
 
 abbrev pub invariant-loop-object : goal.invariant-loop-object
@@ -23,7 +23,7 @@ invariant-loop-object g l = record {
       → All (HasObject structures learnt (map specifier l.atoms)) l.initial.rows → All (HasObject structures learnt (map specifier l.atoms)) l.rows;
   all : (structures : Structures) (learnt : Learnt) → g.R.Regions.IsOver l.regions structures → All (IsLearnt structures learnt) (map specifier l.atoms)
       → (o : LispObject) → IsObject structures o → g.R.Regions.IsOfClass l.regions o
-      → IsRepresented (g.R.Regions.IsIn structures) l.atoms l.reps o ⊎ Contains (signs_of l.rows) (signs_at learnt (map specifier l.atoms) o);
+      → IsRepresented (g.R.Regions.IsIn structures) l.atoms l.reps o ⊎ Contains (signs_of l.rows) (signs_at learnt (map specifier l.atoms) (bare o));
 }
 
 abbrev pub decreases-loop-object : goal.decreases-loop-object

@@ -25,17 +25,17 @@ pub fill-requires : goal.fill-requires
 fill-requires g t c κs within =
     let cars = (cars_at c.args.table.now (specifiers_at c.args.table.now c.args.list.now) c.in_ok-sides.sides.atoms c.in_ok-sides.sides.cars c.in_ok-sides.sides.cdrs c.as_slice.result.now c.in_ok-sides.ensures c.as_slice.ensures) in
     let h = cars_lower c.args.table.now (specifiers_at c.args.table.now c.args.list.now) c.as_slice.result.now (is_some c.args.table.now c.args.list.now c.is_empty.result c.is_empty.ensures c.if-is_empty.false) cars.0 in
-    let f = cars_fit c.args.structures.now c.args.table.now (specifiers_at c.args.table.now c.args.list.now) c.as_slice.result.now cars.0 c.requires.fit c.requires.built in
+    let f = cars_fit c.args.structures.now c.args.table.now (specifiers_at c.args.table.now c.args.list.now) c.as_slice.result.now cars.0 c.requires.fit in
     let k = cars_coded c.args.table.now (specifiers_at c.args.table.now c.args.list.now) c.as_slice.result.now (codes_of c.args.table.now c.args.codes.now) cars.0 c.requires.learnt in
-    (omega (arith, c.decreases), (within, (cars.1, (f.0, (f.1, (c.requires.codes, (k, (c.requires.kept, c.requires.counted))))))))
+    (omega (arith, c.decreases), (within, (cars.1, (f, (c.requires.codes, (k, (c.requires.kept, c.requires.counted)))))))
 
 pub fill-requires-2 : goal.fill-requires-2
 fill-requires-2 g t c κs within =
     let cdrs = (cdrs_at c.args.table.now (specifiers_at c.args.table.now c.args.list.now) c.in_ok-sides.sides.atoms c.in_ok-sides.sides.cars c.in_ok-sides.sides.cdrs c.as_slice-2.result.now c.in_ok-sides.ensures c.as_slice-2.ensures) in
     let h = cdrs_lower c.args.table.now (specifiers_at c.args.table.now c.args.list.now) c.as_slice-2.result.now (is_some c.args.table.now c.args.list.now c.is_empty.result c.is_empty.ensures c.if-is_empty.false) cdrs.0 in
-    let f = cdrs_fit c.args.structures.now c.args.table.now (specifiers_at c.args.table.now c.args.list.now) c.as_slice-2.result.now cdrs.0 c.requires.fit c.requires.built in
+    let f = cdrs_fit c.args.structures.now c.args.table.now (specifiers_at c.args.table.now c.args.list.now) c.as_slice-2.result.now cdrs.0 c.requires.fit in
     let k = cdrs_coded c.args.table.now (specifiers_at c.args.table.now c.args.list.now) c.as_slice-2.result.now (codes_of c.args.table.now c.args.codes.now) cdrs.0 c.requires.learnt in
-    (omega (arith, c.decreases), (within, (cdrs.1, (f.0, (f.1, (c.requires.codes, (k, (c.fill.ensures.fills.kept, c.fill.ensures.counted))))))))
+    (omega (arith, c.decreases), (within, (cdrs.1, (f, (c.requires.codes, (k, (c.fill.ensures.fills.kept, c.fill.ensures.counted)))))))
 
 pub returns-in_err-fill-clause-fills : goal.returns-in_err-fill-clause-fills
 returns-in_err-fill-clause-fills g t c = fills_cars c.args.structures.now c.args.table.now (specifiers_at c.args.table.now c.args.list.now) c.as_slice.result.now c.args.self.now.memo c.fill.new.self.memo c.args.steps.now c.fill.new.steps (not_done c.args.structures.now c.args.table.now c.len-distinct.ensures.distinct c.args.list.now c.args.self.now.memo c.requires.below c.requires.kept (is_some c.args.table.now c.args.list.now c.is_empty.result c.is_empty.ensures c.if-is_empty.false) (sym c.get.ensures ∙ ap option_copied c.in_default.is)) (cars_at c.args.table.now (specifiers_at c.args.table.now c.args.list.now) c.in_ok-sides.sides.atoms c.in_ok-sides.sides.cars c.in_ok-sides.sides.cdrs c.as_slice.result.now c.in_ok-sides.ensures c.as_slice.ensures).0 c.fill.ensures.fills
@@ -47,7 +47,7 @@ pub put-requires : goal.put-requires
 put-requires g t c =
     let cars = (cars_at c.args.table.now (specifiers_at c.args.table.now c.args.list.now) c.in_ok-sides.sides.atoms c.in_ok-sides.sides.cars c.in_ok-sides.sides.cdrs c.as_slice.result.now c.in_ok-sides.ensures c.as_slice.ensures) in
     let cdrs = (cdrs_at c.args.table.now (specifiers_at c.args.table.now c.args.list.now) c.in_ok-sides.sides.atoms c.in_ok-sides.sides.cars c.in_ok-sides.sides.cdrs c.as_slice-2.result.now c.in_ok-sides.ensures c.as_slice-2.ensures) in
-    let may = may_make c.args.structures.now c.args.table.now (specifiers_at c.args.table.now c.args.list.now) c.in_ok-sides.sides.atoms c.in_ok-sides.sides.cars c.in_ok-sides.sides.cdrs c.as_slice.result.now c.as_slice-2.result.now c.args.codes.now c.args.self.now.memo c.fill.new.self.memo c.fill-2.new.self.memo c.fill.new.steps c.fill-2.new.steps c.len-distinct.ensures.distinct (is_some c.args.table.now c.args.list.now c.is_empty.result c.is_empty.ensures c.if-is_empty.false) c.requires.fit c.requires.built c.requires.codes c.requires.learnt c.in_ok-sides.ensures c.requires.kept c.as_slice.ensures c.as_slice-2.ensures c.in_ok-fill.ensures.all c.fill-2.ensures.fills c.in_ok-fill-2.ensures.all in
+    let may = may_make c.args.structures.now c.args.table.now (specifiers_at c.args.table.now c.args.list.now) c.in_ok-sides.sides.atoms c.in_ok-sides.sides.cars c.in_ok-sides.sides.cdrs c.as_slice.result.now c.as_slice-2.result.now c.args.codes.now c.args.self.now.memo c.fill.new.self.memo c.fill-2.new.self.memo c.fill.new.steps c.fill-2.new.steps c.len-distinct.ensures.distinct (is_some c.args.table.now c.args.list.now c.is_empty.result c.is_empty.ensures c.if-is_empty.false) c.requires.fit c.requires.codes c.requires.learnt c.in_ok-sides.ensures c.requires.kept c.as_slice.ensures c.as_slice-2.ensures c.in_ok-fill.ensures.all c.fill-2.ensures.fills c.in_ok-fill-2.ensures.all in
     let absent = absent_after c.args.table.now c.args.list.now c.as_slice.result.now c.as_slice-2.result.now c.args.self.now.memo c.fill.new.self.memo c.fill-2.new.self.memo (not_done c.args.structures.now c.args.table.now c.len-distinct.ensures.distinct c.args.list.now c.args.self.now.memo c.requires.below c.requires.kept (is_some c.args.table.now c.args.list.now c.is_empty.result c.is_empty.ensures c.if-is_empty.false) (sym c.get.ensures ∙ ap option_copied c.in_default.is)) cars.0 cdrs.0 c.in_ok-fill.ensures.all c.in_ok-fill-2.ensures.all in
     record { may = may; counted = c.fill-2.ensures.counted; absent = absent }
 
