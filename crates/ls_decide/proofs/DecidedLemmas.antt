@@ -1,5 +1,5 @@
 -- What a decision makes, and what it costs: the element types first, and then the list of the pair.
-use Rattle.std.proofs.Common.{ℕ, ◌≡◌, ◌≤◌, ◌+◌, refl, sym, ◌∙◌, ap, subst, List, [], ◌∷◌, ◌++◌, append-nil, length, map, Bool, true, false, arith, Option, Some, None, All, fold, true≢false}
+use Rattle.std.proofs.Common.{ℕ, ◌≡◌, ◌≤◌, ◌+◌, refl, sym, ◌∙◌, ap, subst, List, [], ◌∷◌, ◌++◌, append-nil, length, map, Bool, true, false, ◌||◌, Option, Some, None, All, fold, true≢false}
 use Rattle.std.specs.Prelude.{MatchBool, MatchOption}
 use Rattle.std.specs.List.{AllByRecursion, flat_map, sum_by}
 use Rattle.std.proofs.lemmas.List.Elements.{All-from_recursion, recursion_from_All}
@@ -7,6 +7,7 @@ use Rattle.ls_object.specs.declared.table.Code.{Code}
 use Rattle.ls_object.specs.Universe.{Structures}
 use Rattle.ls_spec.specs.declared.spec.DimPattern.TheVariants as dimensions
 use Rattle.ls_spec.specs.Specifier.{Specifier, array_of}
+use Rattle.ls_spec.specs.Approximation.{low, high, has_free_predicate}
 use Rattle.ls_spec.specs.Membership.{UpgradesTo}
 use Rattle.ls_spec.specs.Distinct.{distinct, with_new}
 use Rattle.ls_spec.specs.Fits.{Fits}
@@ -14,17 +15,17 @@ use Rattle.ls_spec.proofs.AlikeLemmas.{AllByRecursion-front, AllByRecursion-back
 use Rattle.ls_spec.proofs.DistinctLemmas.{all_from_distinct, all_of_distinct}
 use Rattle.ls_spec.proofs.ListLemmas.{AllByRecursion-append}
 use Rattle.ls_lists.specs.Walks.{sum, IsClosed}
-use Rattle.ls_lists.specs.Costs.{elements_in, element_lists, pair_cost, upgrade_cost, upgrade_lists}
-use Rattle.ls_intern.specs.Places.{at, specifiers_at, AllBelow, Extends}
-use Rattle.ls_intern.proofs.PlaceLemmas.{specifiers_grown}
-use Rattle.ls_cells.specs.Cells.{IsBuilt}
+use Rattle.ls_lists.specs.Costs.{elements_in, element_lists, pair_cost, pair_lists, upgrade_cost, upgrade_lists}
+use Rattle.ls_intern.specs.Places.{at, specifiers_at, AllBelow}
 use Rattle.ls_cells.specs.Codes.{Codes, IsKnown}
 use Rattle.ls_cells.specs.Kept.{Entries, lists, Grows}
 use Rattle.ls_decide.specs.Answers.{IsUpgraded}
-use Rattle.ls_decide.specs.Sessions.{element_list, pair_list, decided_lists, Works, HasMade, HasUpgraded}
+use Rattle.ls_decide.specs.Sessions.{element_list, pair_list, Works, HasMade, HasUpgraded}
+use Rattle.ls_decide.specs.declared.pairs.Pair.{Pair}
+use Rattle.ls_decide.specs.steps.Pairs.{first_of, second_of, IsPairOf, compared_lists}
+use Rattle.ls_decide.proofs.InternLemmas.{both_named, lists_bounded}
 use Rattle.ls_decide.specs.steps.Learning.{AreInnerFirst, learning_cost}
-use Rattle.ls_decide.proofs.BuiltLemmas.{built-pair_cost}
-use Rattle.ls_decide.proofs.LearnLemmas.{elements_inner, elements_have_fit, elements_have_built, element_lists_are, learning_cost_is}
+use Rattle.ls_decide.proofs.LearnLemmas.{elements_inner, elements_have_fit, element_lists_are, learning_cost_is}
 use Rattle.ls_decide.proofs.WorkLemmas.{Works-front, Works-both, HasMade-both, steps-within_cost}
 
 -- one of two, by a truth value
@@ -47,43 +48,49 @@ module _ (a b : Specifier) (elements : List Specifier) (is : elements ≡ distin
   these = ap (map element_list) is ∙ sym (element_lists_are (a ∷ b ∷ []))
 
   -- some of the element types were learnt, or all
-  pub works_learnt : (old same new : Entries) (before now : ℕ) → same ≡ old → Works (map element_list elements) same new before now → Works (decided_lists a b) old new before now
+  pub works_learnt : (old same new : Entries) (before now : ℕ) → same ≡ old → Works (map element_list elements) same new before now → Works (pair_lists a b) old new before now
   works_learnt old same new before now e w =
-      subst (λ (es : Entries). Works (decided_lists a b) es new before now) e
-      (Works-front (element_lists (a ∷ b ∷ [])) (pair_list a b ∷ []) same new before now (subst (λ ls. Works ls same new before now) these w))
+      subst (λ (es : Entries). Works (pair_lists a b) es new before now) e
+      (Works-front (element_lists (a ∷ b ∷ [])) (compared_lists a b) same new before now (subst (λ ls. Works ls same new before now) these w))
 
-  -- and then rows were made for the list of the pair
-  pub works_whole : (list : List Specifier) (old same mid new : Entries) (before between now : ℕ) → list ≡ pair_list a b → same ≡ old → Works (map element_list elements) same mid before between
-      → HasMade (map element_list elements) same mid → Works (list ∷ []) mid new between now → Works (decided_lists a b) old new before now
-  works_whole list old same mid new before between now l e w made v =
-      subst (λ (es : Entries). Works (decided_lists a b) es new before now) e
-      (Works-both (element_lists (a ∷ b ∷ [])) (pair_list a b ∷ []) same mid new before between now (subst (λ ls. Works ls same mid before between) these w)
-      (subst (λ ls. HasMade ls same mid) these made).walked (subst (λ (x : List Specifier). Works (x ∷ []) mid new between now) l v))
+  -- and then the two were compared
+  pub works_whole : (old same mid new : Entries) (before between now : ℕ) → same ≡ old → Works (map element_list elements) same mid before between
+      → HasMade (map element_list elements) same mid → Works (compared_lists a b) mid new between now → Works (pair_lists a b) old new before now
+  works_whole old same mid new before between now e w made v =
+      subst (λ (es : Entries). Works (pair_lists a b) es new before now) e
+      (Works-both (element_lists (a ∷ b ∷ [])) (compared_lists a b) same mid new before between now (subst (λ ls. Works ls same mid before between) these w)
+      (subst (λ ls. HasMade ls same mid) these made).walked v)
 
-  pub made_whole : (list : List Specifier) (old same mid new : Entries) → list ≡ pair_list a b → same ≡ old → HasMade (map element_list elements) same mid → Grows mid new → HasMade (list ∷ []) mid new
-      → HasMade (decided_lists a b) old new
-  made_whole list old same mid new l e made grows more =
-      subst (λ (es : Entries). HasMade (decided_lists a b) es new) e
-      (HasMade-both (element_lists (a ∷ b ∷ [])) (pair_list a b ∷ []) same mid new (subst (λ ls. HasMade ls same mid) these made) grows (subst (λ (x : List Specifier). HasMade (x ∷ []) mid new) l more))
+  pub made_whole : (ls : List (List Specifier)) (old same mid new : Entries) → same ≡ old → HasMade (map element_list elements) same mid → Grows mid new → HasMade ls mid new
+      → HasMade (element_lists (a ∷ b ∷ []) ++ ls) old new
+  made_whole ls old same mid new e made grows more =
+      subst (λ (es : Entries). HasMade (element_lists (a ∷ b ∷ []) ++ ls) es new) e
+      (HasMade-both (element_lists (a ∷ b ∷ [])) ls same mid new (subst (λ ls. HasMade ls same mid) these made) grows more)
 
 -- the steps are within the cost of the pair
-pub cost_decided : (a b : Specifier) (old new : Entries) (before now : ℕ) → IsBuilt a → IsBuilt b → IsClosed (lists old) → Works (decided_lists a b) old new before now → now ≤ before + pair_cost a b
-cost_decided a b old new before now h k closed w =
-    let within = steps-within_cost (decided_lists a b) old before now closed w.steps in
-    let cost = built-pair_cost a b h k in
-    omega (arith, within, cost)
-
--- the list of a pair, in a table that grew since
-pub pair_grown : (known grown : List Specifier) (ids : List ℕ) (first second : ℕ) (a b : Specifier) → Extends known grown → AllBelow (length known) ids → specifiers_at known ids ≡ pair_list a b
-    → at grown first ≡ a → at grown second ≡ b → specifiers_at grown ids ≡ pair_list (at grown first) (at grown second)
-pair_grown known grown ids first second a b grows below is e f =
-    specifiers_grown known grown ids grows below ∙ is ∙ ap (λ (s : Specifier). pair_list s b) (sym e) ∙ ap (λ (s : Specifier). pair_list (at grown first) s) (sym f)
+pub cost_decided : (a b : Specifier) (old new : Entries) (before now : ℕ) → IsClosed (lists old) → Works (pair_lists a b) old new before now → now ≤ before + pair_cost a b
+unfolding pair_cost
+cost_decided a b old new before now closed w = steps-within_cost (pair_lists a b) old before now closed w.steps
 
 -- the element types of a pair, by their numbers in a table that was lent
-pub elements_listed : (lent known : List Specifier) (slice ids pair : List ℕ) (a b : Specifier) → lent ≡ known → slice ≡ ids → specifiers_at lent ids ≡ distinct (flat_map elements_in (specifiers_at lent pair))
-    → specifiers_at known pair ≡ a ∷ b ∷ [] → specifiers_at known slice ≡ distinct (flat_map elements_in (a ∷ b ∷ []))
-elements_listed lent known slice ids pair a b e f are both =
-    ap (specifiers_at known) f ∙ subst (λ (k : List Specifier). specifiers_at k ids ≡ distinct (flat_map elements_in (specifiers_at k pair))) e are ∙ ap (λ (l : List Specifier). distinct (flat_map elements_in l)) both
+pub elements_listed : (lent known : List Specifier) (slice ids : List ℕ) (pair : Pair) (a b : Specifier) → IsPairOf known pair a b → lent ≡ known → slice ≡ ids
+    → specifiers_at lent ids ≡ distinct (flat_map elements_in (specifiers_at lent (pair.first ∷ pair.second ∷ []))) → specifiers_at known slice ≡ distinct (flat_map elements_in (a ∷ b ∷ []))
+elements_listed lent known slice ids pair a b is e f are =
+    ap (specifiers_at known) f ∙ subst (λ (k : List Specifier). specifiers_at k ids ≡ distinct (flat_map elements_in (specifiers_at k (pair.first ∷ pair.second ∷ [])))) e are
+    ∙ both_named (λ s t. distinct (flat_map elements_in (first_of known pair ∷ second_of known pair ∷ [])) ≡ distinct (flat_map elements_in (s ∷ t ∷ []))) (first_of known pair) (second_of known pair) a b is.first_is is.second_is refl
+
+-- the bounds were compared behind the two themselves
+module _ (a b : Specifier) (free : (has_free_predicate a || has_free_predicate b) ≡ true) (x y : Specifier) (is_low : x ≡ low a) (is_high : y ≡ high b) where
+  both_lists : pair_list a b ∷ pair_list x y ∷ [] ≡ compared_lists a b
+  both_lists = both_named (λ s t. pair_list a b ∷ pair_list s t ∷ [] ≡ compared_lists a b) (low a) (high b) x y (sym is_low) (sym is_high) (sym (lists_bounded a b free))
+
+  pub works_bounded : (old mid new : Entries) (before between now : ℕ) → Works (pair_list a b ∷ []) old mid before between → HasMade (pair_list a b ∷ []) old mid → Works (pair_list x y ∷ []) mid new between now
+      → Works (compared_lists a b) old new before now
+  works_bounded old mid new before between now w made v =
+      subst (λ ls. Works ls old new before now) both_lists (Works-both (pair_list a b ∷ []) (pair_list x y ∷ []) old mid new before between now w made.walked v)
+
+  pub made_bounded : (old mid new : Entries) → HasMade (pair_list a b ∷ []) old mid → Grows mid new → HasMade (pair_list x y ∷ []) mid new → HasMade (compared_lists a b) old new
+  made_bounded old mid new made grows more = subst (λ ls. HasMade ls old new) both_lists (HasMade-both (pair_list a b ∷ []) (pair_list x y ∷ []) old mid new made grows more)
 
 -- ---- one element type
 
@@ -110,9 +117,6 @@ all_of_vector P e inner one =
 
 pub vector_fit : (structures : Structures) (e : Specifier) → Fits structures e → All (Fits structures) (vector_elements e)
 vector_fit structures e h = all_of_vector (Fits structures) e (elements_have_fit structures e h) h
-
-pub vector_built : (e : Specifier) → IsBuilt e → All IsBuilt (vector_elements e)
-vector_built e h = all_of_vector IsBuilt e (elements_have_built e h) h
 
 those : (e : Specifier) → map element_list (vector_elements e) ≡ upgrade_lists e
 those e = sym (element_lists_are (vector_of e ∷ []))

@@ -21,12 +21,11 @@ use Rattle.ls_spec.specs.Approximation.{HasNoPredicate}
 use Rattle.ls_spec.specs.Truth.{Learnt, IsLearnt}
 use Rattle.ls_lists.specs.Costs.{table_specifiers}
 use Rattle.ls_intern.specs.Places.{at, specifiers_at}
-use Rattle.ls_cells.specs.Cells.{IsBuilt}
 use Rattle.ls_cells.specs.Codes.{Codes, HasCodes}
 use Rattle.ls_decide.specs.Sessions.{element_list}
 use Rattle.ls_decide.proofs.PairLemmas.{each_itself}
 
--- they fit, are built, have no predicate and no element type
+-- they fit, and have no element type
 pub entries_fit : (structures : Structures) → AllByRecursion (Fits structures) table_specifiers
 entries_fit structures = (
   (tt, (tt, omega arith)),
@@ -86,9 +85,6 @@ entries_fit structures = (
     ),
   ),
 )
-
-pub entries_built : AllByRecursion IsBuilt table_specifiers
-entries_built = _
 
 pub entries_coded : (codes : Codes) → AllByRecursion (HasCodes codes) table_specifiers
 entries_coded codes = _

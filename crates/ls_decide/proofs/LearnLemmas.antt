@@ -14,10 +14,9 @@ use Rattle.ls_spec.proofs.ListLemmas.{AllByRecursion-append, AllByRecursion-weak
 use Rattle.ls_spec.proofs.AlikeLemmas.{AllByRecursion-front, AllByRecursion-back}
 use Rattle.ls_lists.specs.Walks.{sum}
 use Rattle.ls_lists.specs.Costs.{elements_in, elements_in_all, table_specifiers, element_lists}
-use Rattle.ls_cells.specs.Cells.{IsBuilt}
 use Rattle.ls_cells.specs.Codes.{Codes, IsKnown, HasCodes, HaveCodes}
 use Rattle.ls_cells.specs.Kept.{Grows}
-use Rattle.ls_cells.proofs.DescentLemmas.{GoesDown, AllOf, fits_down, built_down}
+use Rattle.ls_cells.proofs.DescentLemmas.{GoesDown, AllOf, fits_down}
 use Rattle.ls_decide.specs.Sessions.{element_list}
 use Rattle.ls_decide.proofs.PairLemmas.{each_itself}
 use Rattle.ls_decide.specs.steps.Learning.{AreInnerPast, AreInnerFirst, learning_cost}
@@ -53,12 +52,9 @@ module _ (P : Specifier → Type 0) (down : GoesDown P) (of_element : (e : Speci
     elements_of_all_have no_more h = tt
     elements_of_all_have (also s ss) h = AllByRecursion-append P (elements_in s) (elements_in_all ss) (elements_have s h.0) (elements_of_all_have ss h.1)
 
--- the element types in what fits fit, and in what is built are built
+-- the element types in what fits fit
 pub elements_have_fit : (structures : Structures) (s : Specifier) → Fits structures s → AllByRecursion (Fits structures) (elements_in s)
 elements_have_fit structures s h = elements_have (Fits structures) (fits_down structures) (λ e simple dims k. (k.0, (k.1.0.0, (let d = k.1.1 in omega arith)))) s h
-
-pub elements_have_built : (s : Specifier) → IsBuilt s → AllByRecursion IsBuilt (elements_in s)
-elements_have_built s h = elements_have IsBuilt built_down (λ e simple dims k. k) s h
 
 -- and so those of a list
 each_fits : (structures : Structures) (list : Specs) → AllByRecursion (Fits structures) list → AllByRecursion (Fits structures) (flat_map elements_in list)
@@ -66,17 +62,9 @@ each_fits structures [] h = tt
 each_fits structures (s ∷ list) h =
     AllByRecursion-append (Fits structures) (elements_in s) (flat_map elements_in list) (elements_have_fit structures s h.0) (each_fits structures list h.1)
 
-each_built : (list : Specs) → AllByRecursion IsBuilt list → AllByRecursion IsBuilt (flat_map elements_in list)
-each_built [] h = tt
-each_built (s ∷ list) h =
-    AllByRecursion-append IsBuilt (elements_in s) (flat_map elements_in list) (elements_have_built s h.0) (each_built list h.1)
-
 pub elements_fit : (structures : Structures) (list : Specs) → AllByRecursion (Fits structures) list → All (Fits structures) (distinct (flat_map elements_in list))
 elements_fit structures list h =
     All-from_recursion (Fits structures) (distinct (flat_map elements_in list)) (all_of_distinct (Fits structures) (flat_map elements_in list) (each_fits structures list h))
-
-pub elements_built : (list : Specs) → AllByRecursion IsBuilt list → All IsBuilt (distinct (flat_map elements_in list))
-elements_built list h = All-from_recursion IsBuilt (distinct (flat_map elements_in list)) (all_of_distinct IsBuilt (flat_map elements_in list) (each_built list h))
 
 -- ---- known codes
 

@@ -1,9 +1,10 @@
 -- What holds of the list of a pair of types holds of both, and the other way round.
-use Rattle.std.proofs.Common.{◌≡◌, ℕ, suc, ◌<◌, ◌≤◌, refl, ap, sym, subst, ◌∙◌, Bool, true, false, List, [], ◌∷◌, ◌++◌, length, if◌then◌else◌, arith, All}
+use Rattle.std.proofs.Common.{◌≡◌, ℕ, suc, ◌<◌, ◌≤◌, refl, ap, sym, subst, ◌∙◌, Bool, true, false, Option, List, [], ◌∷◌, ◌++◌, length, if◌then◌else◌, arith, All}
 use Rattle.std.specs.List.{AllByRecursion, Contains, list_any}
 use Rattle.std.proofs.lemmas.List.Elements.{All-from_recursion}
 use Rattle.ls_object.specs.Universe.{Structures}
 use Rattle.ls_object.specs.Inclusion.{IsInclusionOrder}
+use Rattle.ls_object.specs.declared.object.Object.{Object}
 use Rattle.ls_spec.specs.Specifier.{Specifier}
 use Rattle.ls_spec.specs.Meaning.{specifiers_of}
 use Rattle.ls_spec.specs.Atoms.{leaves, leaves_of_all, atoms_of}
@@ -13,17 +14,17 @@ use Rattle.ls_spec.proofs.AlikeLemmas.{AllByRecursion-front, AllByRecursion-back
 use Rattle.ls_spec.proofs.DistinctLemmas.{all_from_distinct, all_of_distinct}
 use Rattle.ls_spec.proofs.ListLemmas.{AllByRecursion-weaker}
 use Rattle.ls_lists.specs.Costs.{pair_cost}
-use Rattle.ls_intern.specs.Places.{at, specifiers_at}
+use Rattle.ls_intern.specs.Places.{specifiers_at}
 use Rattle.ls_cells.specs.declared.cells.Cells.{Cells}
-use Rattle.ls_cells.specs.Cells.{IsBuilt, AreRowsOf}
+use Rattle.ls_cells.specs.Cells.{AreRowsOf}
 use Rattle.ls_cells.specs.Kept.{AreCellsOf}
 use Rattle.ls_cells.specs.Codes.{Codes, AreUpgraded, HasCodes}
-use Rattle.ls_cells.proofs.DescentLemmas.{built_atoms, codes_atoms, learnt_by, codes_are_all}
+use Rattle.ls_cells.proofs.DescentLemmas.{codes_atoms, learnt_by, codes_are_all}
 use Rattle.ls_decide.specs.declared.answer.Answer.{Answer}
 use Rattle.ls_decide.specs.declared.answer.Answer.TheVariants.{Yes, No, Unsure, TooLarge}
 use Rattle.ls_decide.specs.Answers.{IsRight}
 use Rattle.ls_decide.specs.Sessions.{pair_list}
-use Rattle.ls_decide.specs.steps.Comparing.{IsOver, IsRightWithin}
+use Rattle.ls_decide.specs.steps.Comparing.{IsOver, IsFound, IsRightWithin}
 
 there : {X : Type 0} (x y : X) (xs : List X) → Contains xs x → Contains (y ∷ xs) x
 there x y xs c = (suc c.0, omega (arith, c.1), c.2)
@@ -51,29 +52,21 @@ over_all xs atoms e =
     (all_from_distinct (IsOver (atoms_of (distinct xs))) xs (by_specifier (Contains (atoms_of (distinct xs))) (distinct xs) (leaves_among (distinct xs))))
 
 -- what the codes of a store tell of a specifier
-pub is_learnt : (structures : Structures) (codes : Codes) (s : Specifier) → AreUpgraded structures codes → IsInclusionOrder structures → HasCodes codes s → IsBuilt s
+pub is_learnt : (structures : Structures) (codes : Codes) (s : Specifier) → AreUpgraded structures codes → IsInclusionOrder structures → HasCodes codes s
     → IsLearnt structures (learnt_by structures codes) s
-is_learnt structures codes s upgraded order coded built =
-    codes_are_all structures codes (s ∷ []) upgraded order (All-from_recursion (HasCodes codes) (s ∷ []) (coded, tt)) (All-from_recursion IsBuilt (s ∷ []) (built, tt)) 0 s (omega arith)
+is_learnt structures codes s upgraded order coded =
+    codes_are_all structures codes (s ∷ []) upgraded order (All-from_recursion (HasCodes codes) (s ∷ []) (coded, tt)) 0 s (omega arith)
 
 -- and of the rows that are kept for a list
-pub rows_learnt : (structures : Structures) (codes : Codes) (known list : List Specifier) → AreUpgraded structures codes → IsInclusionOrder structures → All (HasCodes codes) list → All IsBuilt list
+pub rows_learnt : (structures : Structures) (codes : Codes) (known list : List Specifier) → AreUpgraded structures codes → IsInclusionOrder structures → All (HasCodes codes) list
     → (cells : Cells) → AreCellsOf structures known list cells → AreRowsOf structures (learnt_by structures codes) (specifiers_at known cells.atoms) cells.rows
-rows_learnt structures codes known list upgraded order coded built cells are =
+rows_learnt structures codes known list upgraded order coded cells are =
     subst (λ ls. AreRowsOf structures (learnt_by structures codes) ls cells.rows) (sym are.atoms_are)
-    (are.right.are (learnt_by structures codes) (codes_are_all structures codes (atoms_of list) upgraded order (codes_atoms codes list coded) (built_atoms list built)))
+    (are.right.are (learnt_by structures codes) (codes_are_all structures codes (atoms_of list) upgraded order (codes_atoms codes list coded)))
 
 pair_by : (a b : Specifier) (x : Bool) → [] ≡ (if x then a ∷ [] else (a ∷ []) ++ b ∷ []) → ⊥
 pair_by a b true e = cc
 pair_by a b false e = cc
-
--- the list of the pair, by its numbers in a table that was lent twice
-pub listed : (first_lent known second_lent : List Specifier) (ids slice : List ℕ) (one other : ℕ) (a b : Specifier) → first_lent ≡ known → second_lent ≡ known → slice ≡ ids
-    → specifiers_at first_lent ids ≡ distinct (at first_lent one ∷ specifiers_at first_lent (other ∷ [])) → specifiers_at known (one ∷ other ∷ []) ≡ a ∷ b ∷ []
-    → specifiers_at second_lent slice ≡ pair_list a b
-listed first_lent known second_lent ids slice one other a b e f s are both =
-    ap (λ (k : List Specifier). specifiers_at k slice) f ∙ ap (specifiers_at known) s ∙ ap (λ (k : List Specifier). specifiers_at k ids) (sym e) ∙ are
-    ∙ ap (λ (k : List Specifier). distinct (specifiers_at k (one ∷ other ∷ []))) e ∙ ap distinct both
 
 module _ (known : List Specifier) (ids : List ℕ) (a b : Specifier) (pair : specifiers_at known ids ≡ pair_list a b) where
   -- what holds of both holds of each of the list
@@ -94,14 +87,14 @@ module _ (known : List Specifier) (ids : List ℕ) (a b : Specifier) (pair : spe
       let both = over_all (a ∷ b ∷ []) atoms (e ∙ ap atoms_of pair) in
       (both.0, both.1.0)
 
-  -- what is right where all is learnt is right
-  pub pair_right : (structures : Structures) (codes : Codes) → AreUpgraded structures codes → IsInclusionOrder structures → IsBuilt a → IsBuilt b → HasCodes codes a → HasCodes codes b
-      → (cells : Cells) → AreCellsOf structures known (specifiers_at known ids) cells → (answer : Answer)
-      → ((s : Structures) (learnt : Learnt) → IsLearnt s learnt a → IsLearnt s learnt b → AreRowsOf s learnt (specifiers_at known cells.atoms) cells.rows → IsRightWithin s a b answer)
-      → IsRightWithin structures a b answer
-  pair_right structures codes upgraded order a_built b_built a_coded b_coded cells are answer h =
-      h structures (learnt_by structures codes) (is_learnt structures codes a upgraded order a_coded a_built) (is_learnt structures codes b upgraded order b_coded b_built)
-      (rows_learnt structures codes known (specifiers_at known ids) upgraded order (pair_all (HasCodes codes) a_coded b_coded) (pair_all IsBuilt a_built b_built) cells are)
+  -- what is found where all is learnt is found
+  pub pair_found : (structures : Structures) (codes : Codes) → AreUpgraded structures codes → IsInclusionOrder structures → HasCodes codes a → HasCodes codes b
+      → (cells : Cells) → AreCellsOf structures known (specifiers_at known ids) cells → (found : Option Object)
+      → ((s : Structures) (learnt : Learnt) → IsLearnt s learnt a → IsLearnt s learnt b → AreRowsOf s learnt (specifiers_at known cells.atoms) cells.rows → IsFound s a b found)
+      → IsFound structures a b found
+  pair_found structures codes upgraded order a_coded b_coded cells are found h =
+      h structures (learnt_by structures codes) (is_learnt structures codes a upgraded order a_coded) (is_learnt structures codes b upgraded order b_coded)
+      (rows_learnt structures codes known (specifiers_at known ids) upgraded order (pair_all (HasCodes codes) a_coded b_coded) cells are)
 
 -- where the cost is within the budget, what is right without one is right
 pub IsRight-within : (structures : Structures) (a b : Specifier) (budget : ℕ) (answer : Answer) → pair_cost a b ≤ budget

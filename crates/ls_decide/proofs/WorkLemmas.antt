@@ -8,14 +8,16 @@ use Rattle.ls_spec.specs.Specifier.{Specifier}
 use Rattle.ls_spec.specs.Distinct.{same}
 use Rattle.ls_spec.proofs.ListLemmas.{AllByRecursion-weaker, AllByRecursion-append}
 use Rattle.ls_lists.specs.Walks.{part, among, is_done, walk, walk_all, reached, total, sum, missing, IsClosed}
+use Rattle.ls_lists.specs.Costs.{element_lists}
 use Rattle.ls_lists.proofs.AmongLemmas.{among_itself, among_append, among_more}
 use Rattle.ls_lists.proofs.WalkLemmas.{walk_done, walk_adds}
 use Rattle.ls_lists.proofs.KeptLemmas.{walk_from, walk_closed, total_from}
 use Rattle.ls_cells.specs.Kept.{Entries, lists, count_rows, Grows, Began}
 use Rattle.ls_decide.specs.declared.answer.Answer.{Answer}
 use Rattle.ls_decide.specs.declared.answer.Answer.TheVariants.{Yes, No, Unsure, TooLarge}
-use Rattle.ls_decide.specs.Sessions.{AreAllKept, Works, HasMade, HasDone}
+use Rattle.ls_decide.specs.Sessions.{AreAllKept, Works, HasMade, HasDone, IsPaid}
 use Rattle.ls_decide.specs.steps.Comparing.{IsRightWithin}
+use Rattle.ls_decide.specs.steps.Pairs.{lists_behind}
 
 abbrev Lists : Type 0
 Lists = List (List Specifier)
@@ -198,12 +200,31 @@ HasMade-both xs ys old mid new f grows g = record {
 }
 
 -- what is said of an answer within the budget
-pub HasDone-made : (structures : Structures) (a b : Specifier) (ls : Lists) (old new : Entries) (before now : ℕ) (answer : Answer) → IsRightWithin structures a b answer → HasMade ls old new
-    → HasDone ls old new before now answer
-HasDone-made structures a b ls old new before now TooLarge right made = absurd right
-HasDone-made structures a b ls old new before now Yes right made = made
-HasDone-made structures a b ls old new before now (No o) right made = made
-HasDone-made structures a b ls old new before now (Unsure o) right made = made
+pub HasDone-made : (structures : Structures) (a b : Specifier) (old new : Entries) (before now : ℕ) (answer : Answer) → IsRightWithin structures a b answer
+    → HasMade (element_lists (a ∷ b ∷ []) ++ lists_behind a b answer) old new → HasDone a b old new before now answer
+HasDone-made structures a b old new before now TooLarge right made = absurd right
+HasDone-made structures a b old new before now Yes right made = made
+HasDone-made structures a b old new before now (No o) right made = made
+HasDone-made structures a b old new before now (Unsure o) right made = made
+
+-- ---- what steps are paid by
+
+-- a call that makes nothing
+pub IsPaid-same : (old new : Entries) (before now : ℕ) → new ≡ old → now ≡ before → IsPaid old new before now
+IsPaid-same old new before now e f =
+    let t = ap (λ (es : Entries). total (lists es)) e in
+    omega (arith, t, f)
+
+-- the lists that were made pay for them
+pub IsPaid-made : (ls : Lists) (old new : Entries) (before now : ℕ) → Works ls old new before now → HasMade ls old new → IsPaid old new before now
+IsPaid-made ls old new before now w made =
+    let e = ap total made.walked in
+    let s = w.steps in
+    omega (arith, e, s)
+
+-- one after another
+pub IsPaid-both : (old mid new : Entries) (before between now : ℕ) → IsPaid old mid before between → IsPaid mid new between now → IsPaid old new before now
+IsPaid-both old mid new before between now f g = omega (arith, f, g)
 
 -- ---- a list by another name, and what stays behind it
 

@@ -4,11 +4,13 @@ use Rattle.std.specs.List.{AllByRecursion}
 use Rattle.ls_object.specs.declared.table.Code.{Code}
 use Rattle.ls_spec.specs.Specifier.{Specifier}
 use Rattle.ls_spec.specs.Distinct.{distinct}
-use Rattle.ls_lists.specs.Costs.{table_specifiers, element_lists}
+use Rattle.ls_lists.specs.Costs.{table_specifiers, element_lists, pair_lists}
 use Rattle.ls_lists.specs.Walks.{among, is_done, walk_all, reached, total}
 use Rattle.ls_cells.specs.Kept.{Entries, lists, count_rows, Grows}
 use Rattle.ls_decide.specs.declared.answer.Answer.{Answer}
-use Rattle.ls_decide.specs.declared.answer.Answer.TheVariants.{TooLarge}
+use Rattle.ls_decide.specs.declared.answer.Answer.TheVariants.{Yes, No, Unsure, TooLarge}
+use Rattle.ls_decide.specs.declared.answer.Belongs.{Belongs}
+use Rattle.ls_decide.specs.declared.answer.Belongs.TheVariants as belongs
 
 -- the list that a pair of types is decided by
 abbrev pub pair_list : Specifier → Specifier → List Specifier
@@ -18,7 +20,8 @@ pair_list a b = distinct (a ∷ b ∷ [])
 unfoldable pub element_list : Specifier → List Specifier
 element_list e = distinct (e ∷ table_specifiers)
 
--- the lists of a decision without predicates, in order: those of the element types, and that of the pair
+-- the lists by which a type is found to be included in another, in order: those of the element types, and that of the
+-- pair
 abbrev pub decided_lists : Specifier → Specifier → List (List Specifier)
 decided_lists a b = element_lists (a ∷ b ∷ []) ++ pair_list a b ∷ []
 
@@ -44,13 +47,24 @@ pub record HasMade (ls : List (List Specifier)) (old new : Entries) : Type 0 whe
   pub walked : lists new ≡ walk_all ls (lists old)
   pub kept : AreAllKept ls new
 
--- What an answered call has done: rows are kept for each list that its cost counts. One that is answered TooLarge has
--- made no step and keeps what was kept.
-abbrev pub HasDone : List (List Specifier) → Entries → Entries → ℕ → ℕ → Answer → Type 0
-HasDone ls old new before now TooLarge = (new ≡ old) × (now ≡ before)
-HasDone ls old new before now _ = HasMade ls old new
+-- no more steps were made than the lists add that are kept anew
+abbrev pub IsPaid : Entries → Entries → ℕ → ℕ → Type 0
+IsPaid old new before now = now + total (lists old) ≤ before + total (lists new)
+
+-- What an answered call has done: rows are kept for each list that its answer rests on. One that is answered TooLarge
+-- has made no step and keeps what was kept.
+abbrev pub HasDone : Specifier → Specifier → Entries → Entries → ℕ → ℕ → Answer → Type 0
+HasDone a b old new before now TooLarge = (new ≡ old) × (now ≡ before)
+HasDone a b old new before now Yes = HasMade (decided_lists a b) old new
+HasDone a b old new before now (No o) = HasMade (pair_lists a b) old new
+HasDone a b old new before now (Unsure o) = HasMade (pair_lists a b) old new
 
 -- the same of a call that asks for an upgraded code
 abbrev pub HasUpgraded : List (List Specifier) → Entries → Entries → ℕ → ℕ → Option Code → Type 0
 HasUpgraded ls old new before now None = (new ≡ old) × (now ≡ before)
 HasUpgraded ls old new before now (Some code) = HasMade ls old new
+
+-- the same of a call that asks whether an object belongs
+abbrev pub HasAsked : List (List Specifier) → Entries → Entries → ℕ → ℕ → Belongs → Type 0
+HasAsked ls old new before now belongs.TooLarge = (new ≡ old) × (now ≡ before)
+HasAsked ls old new before now _ = HasMade ls old new

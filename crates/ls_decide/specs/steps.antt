@@ -4,4 +4,6 @@ pub mod Nodes
 pub mod Weights
 pub mod Counting
 pub mod Comparing
+pub mod Pairs
 pub mod Learning
+pub mod Belonging

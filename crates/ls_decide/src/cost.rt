@@ -128,7 +128,7 @@ pub fn cost_of_elements(
 }
 
 /// Whether a predicate stands in one of the two outside element types.
-fn has_free_predicate(a: &Spec, b: &Spec) -> bool
+pub(crate) fn has_free_predicate(a: &Spec, b: &Spec) -> bool
     ensures { result ≡ (is_free (specifier a.now) || is_free (specifier b.now)) }
 {
     a.has_free_predicate() || b.has_free_predicate()

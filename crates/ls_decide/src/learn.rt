@@ -5,7 +5,6 @@ ghost use Rattle.ls_spec.specs.Fits.{Fits};
 ghost use Rattle.ls_spec.specs.Entries.{code_specifier};
 ghost use Rattle.ls_lists.specs.Costs.{table_specifiers};
 ghost use Rattle.ls_intern.specs.Places.{at, specifiers_at, AllBelow, Extends};
-ghost use Rattle.ls_cells.specs.Cells.{IsBuilt};
 ghost use Rattle.ls_cells.specs.Kept.{structures_in, specifiers_in, codes_in, entries_in, Grows};
 ghost use Rattle.ls_decide.specs.Sessions.{element_list, Works};
 ghost use Rattle.ls_decide.specs.steps.Learning.{AreInnerFirst, HasLearnt, HasPassed};
@@ -61,7 +60,6 @@ pub(crate) fn learn_within<L: Ledger>(
 ) -> Result<bool, AllocError>
     requires elements { AllBelow (length (specifiers_in store.old)) elements.now }
     requires fit { All (Fits (structures_in store.old)) (specifiers_at (specifiers_in store.old) elements.now) }
-    requires built { All IsBuilt (specifiers_at (specifiers_in store.old) elements.now) }
     requires inner { AreInnerFirst (specifiers_at (specifiers_in store.old) elements.now) }
     requires budget { budget < 2 ^ 31 }
     ensures structures { structures_in store.new ≡ structures_in store.old }

@@ -1,22 +1,23 @@
 // A session.
 
 ghost use Rattle.std.specs.Prelude.{◌≡◌, ◌≤◌, ◌<◌, ◌+◌, ◌-◌, ◌^◌, [], min, length, IfOk};
+ghost use Rattle.ls_object.specs.Meaning.{lisp_object};
 ghost use Rattle.ls_spec.specs.Meaning.{specifier};
 ghost use Rattle.ls_spec.specs.Fits.{Fits};
-ghost use Rattle.ls_lists.specs.Costs.{pair_cost, type_cost, upgrade_cost, upgrade_lists};
-ghost use Rattle.ls_cells.specs.Cells.{IsBuilt};
+ghost use Rattle.ls_lists.specs.Costs.{pair_cost, pair_lists, type_cost, type_lists, upgrade_cost, upgrade_lists};
 ghost use Rattle.ls_cells.specs.Kept.{structures_in, entries_in, count_rows};
 ghost use Rattle.ls_structs.specs.Trees.{types};
-ghost use Rattle.ls_decide.specs.Answers.{IsRight, IsPlainAnswer, IsSure, IsUpgraded, TellsCost};
-ghost use Rattle.ls_decide.specs.Sessions.{decided_lists, Works, HasDone, HasUpgraded};
+ghost use Rattle.ls_decide.specs.Answers.{IsRight, IsPlainAnswer, IsUpgraded, IsRightMembership, TellsCost};
+ghost use Rattle.ls_decide.specs.Sessions.{Works, HasDone, HasUpgraded, HasAsked, IsPaid};
 
-use crate::answer::Answer;
+use crate::answer::{Answer, Belongs};
+use crate::belonging::typep;
 use crate::cost::{add_entries, cost_of_elements, cost_of_list, cost_of_predicates};
 use crate::decide::{decide, upgrade};
 use ls_cells::Store;
 use ls_intern::Table;
 use ls_memo::Steps;
-use ls_object::Code;
+use ls_object::{Code, Object, Parents};
 use ls_sides::distinct_of;
 use ls_spec::Spec;
 use ls_structs::Tree;
@@ -30,6 +31,8 @@ use std::sync::ledger::Ledger;
 pub struct Session {
     alloc: Global,
     store: Store,
+    /// The structure types of the store.
+    parents: Parents,
 }
 
 impl Model for Session {
@@ -42,7 +45,12 @@ impl Model for Session {
 
     ghost coded = { Prim.hlevel (codes, coded_specifier, row.the_row.coded) };
 
+    ghost use Rattle.std.specs.Prelude.{◌≡◌};
+    ghost use Rattle.ls_cells.specs.Kept.{structures_in};
+
     ghost view = { λ s. s.store };
+
+    ghost invariant = { λ s. s.parents ≡ structures_in s.store };
 }
 
 impl Session {
@@ -50,8 +58,13 @@ impl Session {
     pub fn new(alloc: Global, tree: Tree) -> Result<Session, AllocError>
         ensures { IfOk result (λ s. s ≡ (types tree, ([], ([], [])))) }
     {
-        let store = Store::new(alloc, tree.parents().copy()?);
-        Ok(Session { alloc, store })
+        let parents = tree.parents().copy()?;
+        let store = Store::new(alloc, parents.copy()?);
+        Ok(Session {
+            alloc,
+            store,
+            parents,
+        })
     }
 
     /// How many rows are kept, of all lists together; the greatest u64 where they are more.
@@ -109,8 +122,9 @@ impl Session {
     }
 
     /// Whether every object of the first type belongs to the second (SUBTYPEP), or TooLarge exactly where that costs more
-    /// than the budget. It makes rows for the lists that it needs and for which none are kept, and no more than it costs.
-    /// An error comes for want of memory; the answers that follow are right all the same.
+    /// than the budget. It is Unsure where the predicates decide (SATISFIES, 4.2.3). It makes rows for the lists that it
+    /// needs and for which none are kept, and no more than it costs. An error comes for want of memory; the answers that
+    /// follow are right all the same.
     pub fn subtypep<L: Ledger>(
         &mut self,
         a: &Spec,
@@ -120,16 +134,14 @@ impl Session {
     ) -> Result<Answer, AllocError>
         requires first { Fits (structures_in self.old) (specifier a.now) }
         requires second { Fits (structures_in self.old) (specifier b.now) }
-        requires first_built { IsBuilt (specifier a.now) }
-        requires second_built { IsBuilt (specifier b.now) }
         requires budget { budget ≤ 2 ^ 30 }
         ensures structures { structures_in self.new ≡ structures_in self.old }
         ensures right { IfOk result (IsRight (structures_in self.old) (specifier a.now) (specifier b.now) budget) }
         ensures plain { IfOk result IsPlainAnswer }
-        ensures sure { IfOk result IsSure }
-        ensures works { Works (decided_lists (specifier a.now) (specifier b.now)) (entries_in self.old) (entries_in self.new) steps.old steps.new }
+        ensures works { Works (pair_lists (specifier a.now) (specifier b.now)) (entries_in self.old) (entries_in self.new) steps.old steps.new }
         ensures cost { steps.new ≤ steps.old + pair_cost (specifier a.now) (specifier b.now) }
-        ensures done { IfOk result (HasDone (decided_lists (specifier a.now) (specifier b.now)) (entries_in self.old) (entries_in self.new) steps.old steps.new) }
+        ensures done { IfOk result (HasDone (specifier a.now) (specifier b.now) (entries_in self.old) (entries_in self.new) steps.old steps.new) }
+        ensures paid { IfOk result (λ answer. IsPaid (entries_in self.old) (entries_in self.new) steps.old steps.new) }
     {
         decide(self.alloc, &mut self.store, a, b, budget, steps)
     }
@@ -144,14 +156,44 @@ impl Session {
         steps: &mut Steps<L>,
     ) -> Result<Option<Code>, AllocError>
         requires fits { Fits (structures_in self.old) (specifier e.now) }
-        requires built { IsBuilt (specifier e.now) }
         requires budget { budget ≤ 2 ^ 30 }
         ensures structures { structures_in self.new ≡ structures_in self.old }
         ensures right { IfOk result (IsUpgraded (structures_in self.old) (specifier e.now) budget) }
         ensures works { Works (upgrade_lists (specifier e.now)) (entries_in self.old) (entries_in self.new) steps.old steps.new }
         ensures cost { steps.new ≤ steps.old + upgrade_cost (specifier e.now) }
         ensures done { IfOk result (HasUpgraded (upgrade_lists (specifier e.now)) (entries_in self.old) (entries_in self.new) steps.old steps.new) }
+        ensures paid { IfOk result (λ code. IsPaid (entries_in self.old) (entries_in self.new) steps.old steps.new) }
     {
         upgrade(self.alloc, &mut self.store, e, budget, steps)
+    }
+
+    /// Whether the object belongs to the type (TYPEP), or TooLarge exactly where that costs more than the budget. It makes
+    /// rows for the lists from which the upgraded codes of element types are found and for which none are kept, and no
+    /// more than it costs. An error comes for want of memory; the answers that follow are right all the same.
+    pub fn typep<L: Ledger>(
+        &mut self,
+        object: &Object,
+        s: &Spec,
+        budget: u64,
+        steps: &mut Steps<L>,
+    ) -> Result<Belongs, AllocError>
+        requires fits { Fits (structures_in self.old) (specifier s.now) }
+        requires budget { budget ≤ 2 ^ 30 }
+        ensures structures { structures_in self.new ≡ structures_in self.old }
+        ensures right { IfOk result (IsRightMembership (structures_in self.old) (lisp_object object.now) (specifier s.now) budget) }
+        ensures works { Works (type_lists (specifier s.now)) (entries_in self.old) (entries_in self.new) steps.old steps.new }
+        ensures cost { steps.new ≤ steps.old + type_cost (specifier s.now) }
+        ensures done { IfOk result (HasAsked (type_lists (specifier s.now)) (entries_in self.old) (entries_in self.new) steps.old steps.new) }
+        ensures paid { IfOk result (λ answer. IsPaid (entries_in self.old) (entries_in self.new) steps.old steps.new) }
+    {
+        typep(
+            self.alloc,
+            &self.parents,
+            &mut self.store,
+            object,
+            s,
+            budget,
+            steps,
+        )
     }
 }

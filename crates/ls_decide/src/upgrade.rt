@@ -1,55 +1,28 @@
 // The upgraded codes of element types (UPGRADED-ARRAY-ELEMENT-TYPE, 15.1.2.1).
 
 ghost use Rattle.std.specs.Prelude.{◌≡◌, ◌≤◌, ◌<◌, [], ◌∷◌, length, map, All, IsTrue, IfOk, OnOk};
-ghost use Rattle.std.specs.Bool.{Decides};
 ghost use Rattle.ls_object.specs.Universe.{Structures};
 ghost use Rattle.ls_spec.specs.Membership.{UpgradesTo};
 ghost use Rattle.ls_spec.specs.Fits.{Fits};
-ghost use Rattle.ls_spec.specs.Inclusion.{IsIncluded};
 ghost use Rattle.ls_spec.specs.Truth.{Learnt, IsLearnt};
 ghost use Rattle.ls_lists.specs.Walks.{among};
 ghost use Rattle.ls_lists.specs.Costs.{table_specifiers};
 ghost use Rattle.ls_intern.specs.Places.{at, specifiers_at, AllBelow};
-ghost use Rattle.ls_cells.specs.Cells.{IsBuilt, AreRowsOf};
+ghost use Rattle.ls_cells.specs.Cells.{AreRowsOf};
 ghost use Rattle.ls_cells.specs.Codes.{IsKnown, HasCodes};
 ghost use Rattle.ls_cells.specs.Kept.{structures_in, specifiers_in, codes_in, entries_in, lists, Grows};
 ghost use Rattle.ls_decide.specs.Sessions.{element_list, Works, HasMade};
 ghost use Rattle.ls_decide.specs.steps.Comparing.{IsOver};
 ghost use Rattle.ls_decide.specs.steps.Learning.{AreInnerFirst};
 
-use ls_cells::{Cells, Store, column_of};
+use crate::compare::place_outside;
+use ls_cells::{Cells, Store};
 use ls_intern::{Id, Table};
 use ls_memo::Steps;
 use ls_object::{Code, TABLE_LEN};
 use ls_sides::distinct_of;
 use std::alloc::{AllocError, Global};
 use std::sync::ledger::Ledger;
-
-/// Whether every object of the first specifier belongs to the second, by the rows of a list of both.
-fn is_included(
-    alloc: Global,
-    table: &Table,
-    cells: &Cells,
-    a: Id,
-    b: Id,
-) -> Result<bool, AllocError>
-    requires first { a < length table.now }
-    requires second { b < length table.now }
-    requires first_over { IsOver (specifiers_at table.now cells.now.atoms) (at table.now a) }
-    requires second_over { IsOver (specifiers_at table.now cells.now.atoms) (at table.now b) }
-    ensures { IfOk result (λ yes. (structures : Structures) (learnt : Learnt)
-        → IsLearnt structures learnt (at table.now a)
-        → IsLearnt structures learnt (at table.now b)
-        → AreRowsOf structures learnt (specifiers_at table.now cells.now.atoms) cells.now.rows
-        → Decides yes (IsIncluded structures (at table.now a) (at table.now b))) }
-{
-    let inside = column_of(alloc, table, cells, a)?;
-    let allowed = column_of(alloc, table, cells, b)?;
-    match inside.place_outside(&allowed) {
-        None => Ok(true),
-        Some(_) => Ok(false),
-    }
-}
 
 /// The first entry of the upgrading table that holds every object of the element type, by the rows of the list of the
 /// type and the entries. The last entry holds every object.
@@ -71,7 +44,7 @@ fn first_holding(
         → UpgradesTo structures (at table.now element) code.index) }
 {
     for place in 0..TABLE_LEN - 1 {
-        if is_included(alloc, table, cells, element, entries[place])? {
+        if place_outside(alloc, table, cells, element, entries[place])?.is_none() {
             return Ok(Code { index: place as u8 });
         }
     }
@@ -96,7 +69,6 @@ fn learn_code(
     requires list { specifiers_at (specifiers_in store.old) list.now
         ≡ element_list (at (specifiers_in store.old) element) }
     requires kept { IsTrue (among (element_list (at (specifiers_in store.old) element)) (lists (entries_in store.old))) }
-    requires built { IsBuilt (at (specifiers_in store.old) element) }
     requires learnt { HasCodes (codes_in store.old) (at (specifiers_in store.old) element) }
     ensures structures { structures_in store.new ≡ structures_in store.old }
     ensures specifiers { specifiers_in store.new ≡ specifiers_in store.old }
@@ -123,7 +95,6 @@ fn learn_one<L: Ledger>(
     requires below { AllBelow (length (specifiers_in store.old)) entries.now }
     requires entries { specifiers_at (specifiers_in store.old) entries.now ≡ table_specifiers }
     requires fits { Fits (structures_in store.old) (at (specifiers_in store.old) element) }
-    requires built { IsBuilt (at (specifiers_in store.old) element) }
     requires learnt { HasCodes (codes_in store.old) (at (specifiers_in store.old) element) }
     ensures structures { structures_in store.new ≡ structures_in store.old }
     ensures specifiers { specifiers_in store.new ≡ specifiers_in store.old }
@@ -151,7 +122,6 @@ pub(crate) fn learn_all<L: Ledger>(
     requires below { AllBelow (length (specifiers_in store.old)) entries.now }
     requires entries { specifiers_at (specifiers_in store.old) entries.now ≡ table_specifiers }
     requires fit { All (Fits (structures_in store.old)) (specifiers_at (specifiers_in store.old) elements.now) }
-    requires built { All IsBuilt (specifiers_at (specifiers_in store.old) elements.now) }
     requires inner { AreInnerFirst (specifiers_at (specifiers_in store.old) elements.now) }
     ensures structures { structures_in store.new ≡ structures_in store.old }
     ensures specifiers { specifiers_in store.new ≡ specifiers_in store.old }

@@ -4,7 +4,6 @@ use Rattle.ls_spec.specs.Specifier.{Specifier}
 use Rattle.ls_spec.specs.Fits.{Fits}
 use Rattle.ls_intern.specs.Places.{specifiers_at, AllBelow}
 use Rattle.ls_intern.proofs.PlaceLemmas.{all_below_grown, specifiers_grown}
-use Rattle.ls_cells.specs.Cells.{IsBuilt}
 use Rattle.ls_cells.specs.Codes.{IsKnown}
 use Rattle.ls_cells.specs.Kept.{structures_in, specifiers_in, codes_in, entries_in, Entries}
 use Rattle.ls_decide.specs.Answers.{TellsCost}
@@ -55,11 +54,6 @@ learn_all-requires-clause-fit g c =
     let same = specifiers_grown (specifiers_in c.args.store.now) (specifiers_in c.intern_entries.new.store) c.args.elements.now c.intern_entries.ensures.grows c.requires.elements in
     subst (λ (s : Structures). All (Fits s) (specifiers_at (specifiers_in c.intern_entries.new.store) c.args.elements.now)) (sym c.intern_entries.ensures.structures)
     (subst (λ (l : List Specifier). All (Fits (structures_in c.args.store.now)) l) (sym same) c.requires.fit)
-
-pub learn_all-requires-clause-built : goal.learn_all-requires-clause-built
-learn_all-requires-clause-built g c =
-    let same = specifiers_grown (specifiers_in c.args.store.now) (specifiers_in c.intern_entries.new.store) c.args.elements.now c.intern_entries.ensures.grows c.requires.elements in
-    subst (λ (l : List Specifier). All IsBuilt l) (sym same) c.requires.built
 
 pub learn_all-requires-clause-inner : goal.learn_all-requires-clause-inner
 learn_all-requires-clause-inner g c =

@@ -6,32 +6,34 @@ use Rattle.ls_spec.specs.Truth.{IsLearnt}
 use Rattle.ls_intern.specs.Places.{at, specifiers_at}
 use Rattle.ls_sides.proofs.GatherLemmas.{below_at}
 use Rattle.ls_decide.specs.steps.Comparing.{IsOver}
+use Rattle.ls_decide.proofs.RightLemmas.{place_decides}
 use Rattle.ls_decide.proofs.EntryLemmas.{entry_at, entry_named, entries_long, entry_has, entries_learnt, upgrades_at, upgrades_last, none_more}
 use Rattle.ls_decide.proofs.upgrade.first_holding.Goals as goal
 
-pub is_included-requires-clause-second : goal.is_included-requires-clause-second
-is_included-requires-clause-second c =
+pub place_outside-requires-clause-second : goal.place_outside-requires-clause-second
+place_outside-requires-clause-second c =
     let long = entries_long c.args.table.now c.args.entries.now c.requires.entries in
     let here = c.loop-place-test.true in
     below_at _ _ _ c.requires.below (omega (arith, long, here))
 
-pub is_included-requires-clause-second_over : goal.is_included-requires-clause-second_over
-is_included-requires-clause-second_over c =
+pub place_outside-requires-clause-second_over : goal.place_outside-requires-clause-second_over
+place_outside-requires-clause-second_over c =
     let here = c.loop-place-test.true in
     let within : c.loop-place.place < 19 = omega (arith, here) in
     let atoms = specifiers_at c.args.table.now c.args.cells.now.atoms in
     subst (IsOver atoms) (entry_at c.loop-place.place within no_objects ∙ sym (entry_named c.args.table.now c.args.entries.now c.loop-place.place c.requires.entries within))
     (c.requires.entries_over c.loop-place.place no_objects within)
 
-pub returns-then-branch : goal.returns-then-branch
-returns-then-branch c = λ structures learnt of_e are.
+pub returns-then-is_none : goal.returns-then-is_none
+returns-then-is_none c = λ structures learnt of_e are.
     let here = c.loop-place-test.true in
     let within : c.loop-place.place < 19 = omega (arith, here) in
     let e = at c.args.table.now c.args.element in
     let is = entry_named c.args.table.now c.args.entries.now c.loop-place.place c.requires.entries within in
     let of_entry = subst (IsLearnt structures learnt) (sym is) (entry_has (IsLearnt structures learnt) (entries_learnt structures learnt) c.loop-place.place within) in
-    upgrades_at structures e c.loop-place.place within (c.loop-place.invariant structures learnt of_e are)
-    (subst (IsIncluded structures e) is ((c.in_ok-is_included.ensures structures learnt of_e of_entry are).0 c.if-branch.true))
+    let decides = place_decides structures e _ c.args.cells.now.rows c.in_ok-place_outside.field-0 c.is_none.result c.is_none.ensures c.in_ok-place_outside.ensures.within
+    (c.in_ok-place_outside.ensures.right structures learnt of_e of_entry are) in
+    upgrades_at structures e c.loop-place.place within (c.loop-place.invariant structures learnt of_e are) (subst (IsIncluded structures e) is (decides.0 c.if-is_none.true))
 
 pub loop-place-preserved : goal.loop-place-preserved
 loop-place-preserved c = λ structures learnt of_e are.
@@ -40,8 +42,10 @@ loop-place-preserved c = λ structures learnt of_e are.
     let e = at c.args.table.now c.args.element in
     let is = entry_named c.args.table.now c.args.entries.now c.loop-place.place c.requires.entries within in
     let of_entry = subst (IsLearnt structures learnt) (sym is) (entry_has (IsLearnt structures learnt) (entries_learnt structures learnt) c.loop-place.place within) in
-    none_more structures e c.loop-place.place c.in_ok-is_included.field-0 (c.loop-place.invariant structures learnt of_e are)
-    (subst (λ (s : Specifier). Decides c.in_ok-is_included.field-0 (IsIncluded structures e s)) is (c.in_ok-is_included.ensures structures learnt of_e of_entry are)) c.if-branch.false
+    let decides = place_decides structures e _ c.args.cells.now.rows c.in_ok-place_outside.field-0 c.is_none.result c.is_none.ensures c.in_ok-place_outside.ensures.within
+    (c.in_ok-place_outside.ensures.right structures learnt of_e of_entry are) in
+    none_more structures e c.loop-place.place c.is_none.result (c.loop-place.invariant structures learnt of_e are)
+    (subst (λ (s : Specifier). Decides c.is_none.result (IsIncluded structures e s)) is decides) c.if-is_none.false
 
 pub returns : goal.returns
 returns c = λ structures learnt of_e are.

@@ -5,7 +5,6 @@ use Rattle.ls_spec.specs.Specifier.{Specifier}
 use Rattle.ls_spec.specs.Fits.{Fits}
 use Rattle.ls_intern.specs.Places.{at, specifiers_at}
 use Rattle.ls_sides.proofs.GatherLemmas.{below_at}
-use Rattle.ls_cells.specs.Cells.{IsBuilt}
 use Rattle.ls_cells.specs.Codes.{HasCodes, IsKnown}
 use Rattle.ls_cells.specs.Kept.{structures_in, specifiers_in, codes_in, entries_in}
 use Rattle.ls_decide.specs.Sessions.{element_list, Works, HasMade}
@@ -27,12 +26,6 @@ learn_one-requires-clause-fits g c =
     subst (λ (s : Structures). Fits s (at (specifiers_in c.loop-element.store) (slice_index_or c.args.elements.now i 0))) (sym c.loop-element.invariant.structures)
     (subst (λ (k : List Specifier). Fits (structures_in c.args.store.now) (at k (slice_index_or c.args.elements.now i 0))) (sym c.loop-element.invariant.specifiers)
     (all_here known c.args.elements.now i (Fits (structures_in c.args.store.now)) c.requires.fit c.loop-element-test.true))
-
-pub learn_one-requires-clause-built : goal.learn_one-requires-clause-built
-learn_one-requires-clause-built g c =
-    let i = c.loop-element.element-index in
-    subst (λ (k : List Specifier). IsBuilt (at k (slice_index_or c.args.elements.now i 0))) (sym c.loop-element.invariant.specifiers)
-    (all_here (specifiers_in c.args.store.now) c.args.elements.now i IsBuilt c.requires.built c.loop-element-test.true)
 
 -- the element types in it were gone through
 pub learn_one-requires-clause-learnt : goal.learn_one-requires-clause-learnt

@@ -7,13 +7,13 @@ use Rattle.ls_lists.specs.Costs.{table_specifiers}
 use Rattle.ls_intern.specs.Places.{at, specifiers_at}
 use Rattle.ls_spec.specs.Membership.{UpgradesTo}
 use Rattle.ls_spec.specs.Truth.{IsLearnt}
-use Rattle.ls_cells.specs.Cells.{IsBuilt, AreRowsOf}
+use Rattle.ls_cells.specs.Cells.{AreRowsOf}
 use Rattle.ls_cells.specs.Codes.{HasCodes}
 use Rattle.ls_cells.specs.Kept.{structures_in, specifiers_in, codes_in}
 use Rattle.ls_cells.proofs.DescentLemmas.{learnt_by}
 use Rattle.ls_decide.specs.steps.Comparing.{IsOver}
 use Rattle.ls_decide.proofs.PairLemmas.{over_all, is_learnt, rows_learnt}
-use Rattle.ls_decide.proofs.EntryLemmas.{entries_built, entries_coded, element_list_is, list_all}
+use Rattle.ls_decide.proofs.EntryLemmas.{entries_coded, element_list_is, list_all}
 use Rattle.ls_decide.proofs.LearnLemmas.{known_last}
 use Rattle.ls_decide.proofs.upgrade.learn_code.Goals as goal
 
@@ -36,9 +36,9 @@ learn-requires-clause-upgraded c =
     let structures = structures_in c.args.store.now in
     let codes = codes_in c.args.store.now in
     let e = at known c.args.element in
-    let of_e = is_learnt structures codes e c.table.ensures.codes c.table.ensures.order c.requires.learnt c.requires.built in
+    let of_e = is_learnt structures codes e c.table.ensures.codes c.table.ensures.order c.requires.learnt in
     let rows = rows_learnt structures codes known (specifiers_at known c.args.list.now) c.table.ensures.codes c.table.ensures.order
-    (list_all (HasCodes codes) _ e c.requires.list c.requires.learnt (entries_coded codes)) (list_all IsBuilt _ e c.requires.list c.requires.built entries_built) c.cells.result.now c.cells.ensures in
+    (list_all (HasCodes codes) _ e c.requires.list c.requires.learnt (entries_coded codes)) c.cells.result.now c.cells.ensures in
     subst (λ (k : List Specifier). UpgradesTo structures (at k c.args.element) c.in_ok-code.code.index) c.table.ensures.specifiers
     (c.in_ok-code.ensures structures (learnt_by structures codes)
     (subst (λ (k : List Specifier). IsLearnt structures (learnt_by structures codes) (at k c.args.element)) (sym c.table.ensures.specifiers) of_e)

@@ -4,11 +4,10 @@ use Rattle.ls_spec.specs.Specifier.{Specifier}
 use Rattle.ls_spec.specs.Fits.{Fits}
 use Rattle.ls_lists.specs.Walks.{among}
 use Rattle.ls_intern.specs.Places.{at, specifiers_at}
-use Rattle.ls_cells.specs.Cells.{IsBuilt}
 use Rattle.ls_cells.specs.Codes.{HasCodes, IsKnown}
 use Rattle.ls_cells.specs.Kept.{structures_in, specifiers_in, codes_in, entries_in, lists}
 use Rattle.ls_decide.specs.Sessions.{element_list}
-use Rattle.ls_decide.proofs.EntryLemmas.{entries_fit, entries_built, entries_coded, listed_with, list_all, list_some}
+use Rattle.ls_decide.proofs.EntryLemmas.{entries_fit, entries_coded, listed_with, list_all, list_some}
 use Rattle.ls_decide.proofs.WorkLemmas.{Works-none, works_listed, works_then, made_listed}
 use Rattle.ls_decide.proofs.upgrade.learn_one.Goals as goal
 
@@ -20,12 +19,6 @@ fill-requires-clause-fit g c =
     let known = specifiers_in c.args.store.now in
     let is = listed_with _ known _ _ c.args.entries.now c.args.element c.table.ensures.specifiers c.as_slice.ensures c.in_ok-list.ensures.are c.requires.entries in
     list_all (Fits (structures_in c.args.store.now)) _ (at known c.args.element) is c.requires.fits (entries_fit (structures_in c.args.store.now))
-
-pub fill-requires-clause-built : goal.fill-requires-clause-built
-fill-requires-clause-built g c =
-    let known = specifiers_in c.args.store.now in
-    let is = listed_with _ known _ _ c.args.entries.now c.args.element c.table.ensures.specifiers c.as_slice.ensures c.in_ok-list.ensures.are c.requires.entries in
-    list_all IsBuilt _ (at known c.args.element) is c.requires.built entries_built
 
 pub fill-requires-clause-learnt : goal.fill-requires-clause-learnt
 fill-requires-clause-learnt g c =
