@@ -56,6 +56,7 @@ module _ (structures : Structures) where
   kept : IsKept (IsStructureOf structures) IsFitIn
   kept = record {
     structure = λ n s h. (h, tt, omega arith);
+    predicate = λ n p. (tt, tt, omega arith);
     range = λ n k lo hi l h. (tt, (l, h), omega arith);
     atom = fit_atom;
     array = λ n simple dims h. (tt, h, omega arith);

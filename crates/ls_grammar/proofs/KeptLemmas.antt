@@ -1,5 +1,5 @@
--- A property of specifiers that ranges, built-in names, arrays, strings, objects, AND, OR, NOT and CONS keep holds of
--- all that data denote.
+-- A property of specifiers that predicates, ranges, built-in names, arrays, strings, objects, AND, OR, NOT and CONS keep
+-- holds of all that data denote.
 use Rattle.std.proofs.Common.{ℕ, ℤ, pos, zero, suc, ◌-◌, ◌-ℤ◌, ◌≤◌, ◌^◌, List, [], ◌∷◌, length, Result, Ok, Err, arith, lit≤}
 use Rattle.std.proofs.Common.{◌≡◌, refl, subst, sym}
 use Rattle.std.specs.Prelude.{nat_le, slice_get, neg_ℤ, unsigned_abs, if◌then◌else◌, Bool, true, false, Option, Some, None, IfOk, IfSome}
@@ -23,7 +23,7 @@ use Rattle.ls_spec.specs.declared.spec.Bound.{Bound}
 use Rattle.ls_spec.specs.declared.spec.Bound.TheVariants.{Free, Incl}
 use Rattle.ls_spec.specs.declared.spec.DimPattern.{DimPattern}
 use Rattle.ls_spec.specs.declared.spec.DimPattern.TheVariants as dimensions
-use Rattle.ls_spec.specs.Specifier.{Specifier, all_objects, not_of, eql_to, range_of, structure_under, array_any, array_of, string_of, cons_of}
+use Rattle.ls_spec.specs.Specifier.{Specifier, all_objects, not_of, eql_to, range_of, structure_under, array_any, array_of, string_of, cons_of, satisfies}
 use Rattle.ls_spec.specs.Builtins.{expansion}
 use Rattle.ls_spec.specs.Fits.{IsSmall, IsSmallBound, IsSmallPoint, IsSmallPlace, AreSmallDimensions}
 use Rattle.ls_deftype.specs.Templates.{Definition}
@@ -39,7 +39,7 @@ use Rattle.ls_grammar.specs.declared.refusal.RefusalKind.TheVariants as kind
 use Rattle.ls_grammar.specs.Numbers.{refusal, written, whole, is_star, bound_of, size_of, bits_of}
 use Rattle.ls_grammar.specs.Levels.{Level, refused, known, object, members, all_of, some_of, none_of, pair_of, array_over, expanded, bad_argument}
 use Rattle.ls_grammar.specs.Levels.{range, range_level, from_to, below, signed_bytes, unsigned_bytes, sized, mod_level}
-use Rattle.ls_grammar.specs.Levels.{signed_level, unsigned_level, starred_level, not_level, eql_level, part_of, cons_level}
+use Rattle.ls_grammar.specs.Levels.{signed_level, unsigned_level, starred_level, not_level, eql_level, predicate_form, satisfies_level, part_of, cons_level}
 use Rattle.ls_grammar.specs.Dimensions.{place_of, dimensions_of, one_place}
 use Rattle.ls_grammar.specs.ArrayLevels.{elements, arrays, array_level, vector_with, vector_level, of_length, length_level, vectors_over}
 use Rattle.ls_grammar.specs.BuiltinLevels.{built_atom, built_list}
@@ -59,6 +59,7 @@ OfKnown Q _ = Unit {0}
 
 module _ (Q : Specifier → Type 0) (env : Environment)
     (on_structure : (s : Symbol) → status_of env s ≡ status.Structure → Q (structure_under s))
+    (on_predicate : (p : Symbol) → Q (satisfies p))
     (on_range : (k : RangeKind) (lo hi : Bound) → IsSmallBound lo → IsSmallBound hi → Q (range_of k lo hi))
     (on_atom : (at : Span) (b : Builtin) → OfKnown Q (built_atom at b))
     (on_array : (simple : Bool) (dims : DimPattern) → AreSmallDimensions dims → Q (array_any simple dims))
@@ -128,6 +129,15 @@ module _ (Q : Specifier → Type 0) (env : Environment)
   of_eql_level at (d ∷ []) = tt
   of_eql_level at (d ∷ e ∷ ds) = tt
 
+  of_predicate : (at : Span) (f : Form-F Form Datum) → OfKnown Q (predicate_form at f)
+  of_predicate at (Form-F.Symbol p) = on_predicate p
+  of_predicate at _ = tt
+
+  of_satisfies_level : (at : Span) (args : List Datum) → OfKnown Q (satisfies_level at args)
+  of_satisfies_level at [] = tt
+  of_satisfies_level at (d ∷ []) = of_predicate at (out-Form d.form)
+  of_satisfies_level at (d ∷ e ∷ ds) = tt
+
   of_cons_level : (at : Span) (args : List Datum) → OfKnown Q (cons_level at args)
   of_cons_level at [] = tt
   of_cons_level at (d ∷ []) = tt
@@ -183,6 +193,7 @@ module _ (Q : Specifier → Type 0) (env : Environment)
   of_built_list : (at : Span) (args : List Datum) (b : Builtin) → OfKnown Q (built_list at args b)
   of_built_list at args name.Not = of_not_level at args
   of_built_list at args name.Eql = of_eql_level at args
+  of_built_list at args name.Satisfies = of_satisfies_level at args
   of_built_list at args name.Cons = of_cons_level at args
   of_built_list at args name.Integer = of_range_level Integer at args
   of_built_list at args name.Rational = of_range_level Rational at args
@@ -261,6 +272,7 @@ module _ (Q : Specifier → Type 0) (env : Environment)
 -- P n holds of what is denoted by n levels, where the structure types that are named have the property N
 pub record IsKept (N : Symbol → Type 0) (P : ℕ → Specifier → Type 0) : Type 0 where
   pub structure : (n : ℕ) (s : Symbol) → N s → P (suc n) (structure_under s)
+  pub predicate : (n : ℕ) (p : Symbol) → P (suc n) (satisfies p)
   pub range : (n : ℕ) (k : RangeKind) (lo hi : Bound) → IsSmallBound lo → IsSmallBound hi → P (suc n) (range_of k lo hi)
   pub atom : (n : ℕ) (at : Span) (b : Builtin) → OfKnown (P (suc n)) (built_atom at b)
   pub array : (n : ℕ) (simple : Bool) (dims : DimPattern) → AreSmallDimensions dims → P (suc n) (array_any simple dims)
@@ -321,4 +333,4 @@ module _ (N : Symbol → Type 0) (P : ℕ → Specifier → Type 0) (kept : IsKe
   kept_in env named zero d s h = absurd h
   kept_in env named (suc n) d s h =
       of_says n (DenotesIn env n) (kept_in env named n) (level env d) s
-      (of_level (P (suc n)) env (λ x e. kept.structure n x (named x e)) (kept.range n) (kept.atom n) (kept.array n) (kept.vector n) (kept.string n) d) h
+      (of_level (P (suc n)) env (λ x e. kept.structure n x (named x e)) (kept.predicate n) (kept.range n) (kept.atom n) (kept.array n) (kept.vector n) (kept.string n) d) h

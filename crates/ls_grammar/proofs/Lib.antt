@@ -8,3 +8,6 @@ pub mod MeaningLemmas
 pub mod WholeLemmas
 pub mod KeptLemmas
 pub mod FitLemmas
+pub mod NameLemmas
+pub mod MakingLemmas
+pub mod LiteralLemmas

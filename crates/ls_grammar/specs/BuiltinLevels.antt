@@ -1,5 +1,4 @@
 -- What each built-in name says as an atom, and as the head of a list with arguments (4.2.3, figures 4-2 to 4-4).
--- The name of predicates is not built.
 use Rattle.std.specs.Prelude.{true, false, List}
 use Rattle.ls_reader.specs.declared.datum.Span.{Span}
 use Rattle.ls_reader.specs.declared.datum.Datum.{Datum}
@@ -10,7 +9,7 @@ use Rattle.ls_spec.specs.Specifier.{string_of}
 use Rattle.ls_spec.specs.Builtins.{expansion}
 use Rattle.ls_grammar.specs.declared.refusal.RefusalKind.TheVariants as kind
 use Rattle.ls_grammar.specs.Numbers.{refusal}
-use Rattle.ls_grammar.specs.Levels.{Level, refused, known, members, all_of, some_of, bad_argument, not_built, range_level, mod_level, signed_level, unsigned_level, starred_level, not_level, eql_level, cons_level}
+use Rattle.ls_grammar.specs.Levels.{Level, refused, known, members, all_of, some_of, bad_argument, range_level, mod_level, signed_level, unsigned_level, starred_level, not_level, eql_level, satisfies_level, cons_level}
 use Rattle.ls_grammar.specs.ArrayLevels.{array_level, vector_level, length_level, vectors_over}
 
 -- as an atom: the names of figures 4-2 and 4-3 are specifiers by themselves, those of figure 4-4 are not
@@ -72,7 +71,7 @@ built_atom at name.Or = bad_argument at
 built_atom at name.Not = bad_argument at
 built_atom at name.Member = bad_argument at
 built_atom at name.Eql = bad_argument at
-built_atom at name.Satisfies = not_built at
+built_atom at name.Satisfies = bad_argument at
 built_atom at name.Mod = bad_argument at
 built_atom at name.Values = refused (refusal kind.FunctionList at)
 built_atom at name.Star = refused (refusal kind.StarNotAllowed at)
@@ -136,7 +135,7 @@ built_list at args name.Or = some_of args
 built_list at args name.Not = not_level at args
 built_list at args name.Member = members args
 built_list at args name.Eql = eql_level at args
-built_list at args name.Satisfies = not_built at
+built_list at args name.Satisfies = satisfies_level at args
 built_list at args name.Mod = mod_level at args
 built_list at args name.Values = refused (refusal kind.FunctionList at)
 built_list at args name.Star = bad_argument at

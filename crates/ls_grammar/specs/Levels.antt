@@ -3,6 +3,8 @@ use Rattle.std.specs.Prelude.{ℕ, ℤ, pos, neg_ℤ, ◌-ℤ◌, ◌-◌, ◌^�
 use Rattle.std.specs.List.{list_all}
 use Rattle.ls_reader.specs.declared.datum.Span.{Span}
 use Rattle.ls_reader.specs.declared.datum.Datum.{Datum}
+use Rattle.ls_reader.specs.declared.datum.Form.{Form, out-Form}
+use Rattle.ls_reader.specs.declared.datum.Form.TheOpen.{Form-F}
 use Rattle.ls_tables.specs.declared.name.Builtin.{Builtin}
 use Rattle.ls_tables.specs.declared.name.Builtin.TheVariants as name
 use Rattle.ls_spec.specs.declared.spec.RangeKind.{RangeKind}
@@ -10,7 +12,7 @@ use Rattle.ls_spec.specs.declared.spec.RangeKind.TheVariants.{Integer}
 use Rattle.ls_spec.specs.declared.spec.Bound.{Bound}
 use Rattle.ls_spec.specs.declared.spec.Bound.TheVariants.{Free, Incl}
 use Rattle.ls_spec.specs.declared.spec.DimPattern.{DimPattern}
-use Rattle.ls_spec.specs.Specifier.{Specifier, range_of}
+use Rattle.ls_spec.specs.Specifier.{Specifier, range_of, satisfies}
 use Rattle.ls_spec.specs.Builtins.{expansion}
 use Rattle.ls_grammar.specs.declared.refusal.RefusalKind.{RefusalKind}
 use Rattle.ls_grammar.specs.declared.refusal.RefusalKind.TheVariants as kind
@@ -38,9 +40,6 @@ pub data Level : Type 0 where
 
 abbrev pub bad_argument : Span → Level
 bad_argument at = refused (refusal kind.BadArgument at)
-
-abbrev pub not_built : Span → Level
-not_built at = refused (refusal kind.NotBuilt at)
 
 -- ---- lists with arguments
 
@@ -108,6 +107,15 @@ not_level at _ = bad_argument at
 abbrev pub eql_level : Span → List Datum → Level
 eql_level at (d ∷ []) = object d
 eql_level at _ = bad_argument at
+
+-- SATISFIES takes one symbol, the name of a predicate
+abbrev pub predicate_form : Span → Form-F Form Datum → Level
+predicate_form at (Form-F.Symbol p) = known (satisfies p)
+predicate_form at _ = bad_argument at
+
+abbrev pub satisfies_level : Span → List Datum → Level
+satisfies_level at (d ∷ []) = predicate_form at (out-Form d.form)
+satisfies_level at _ = bad_argument at
 
 -- CONS takes at most two specifiers; one that is missing, or `*`, is T
 abbrev pub part_of : Datum → Option Datum

@@ -6,4 +6,5 @@ pub mod BuiltinLevels
 pub mod Saying
 pub mod Denoting
 pub mod Visiting
+pub mod Literals
 pub mod steps

@@ -2,6 +2,7 @@
 
 ghost use Rattle.std.specs.Prelude.{◌≡◌, ◌≤◌, ◌^◌, pos, unsigned_abs, IsTrue, IfOk};
 ghost use Rattle.std.specs.List.{list_all};
+ghost use Rattle.ls_reader.specs.declared.datum.Form.{out-Form};
 ghost use Rattle.ls_tables.specs.Builtins.{stands_alone};
 ghost use Rattle.ls_spec.specs.Meaning.{specifier};
 ghost use Rattle.ls_spec.specs.Specifier.{string_of};
@@ -16,7 +17,7 @@ use crate::number::{bits_of, bound_of, is_star, refusal, size_of};
 use crate::refusal::{Refusal, RefusalKind};
 use ls_deftype::Template;
 use ls_object::{Rat, Symbol};
-use ls_reader::{Datum, Span};
+use ls_reader::{Datum, Form, Span};
 use ls_spec::{Bound, RangeKind, Spec};
 use ls_tables::Builtin;
 
@@ -40,6 +41,8 @@ pub(crate) enum Level<'a> {
     Named(Builtin),
     /// A structure type of the file.
     Structure(&'a Symbol),
+    /// SATISFIES of the name of a predicate.
+    Predicate(&'a Symbol),
     /// EQL of an object.
     Object(&'a Datum),
     /// MEMBER of objects.
@@ -252,6 +255,27 @@ pub(crate) fn eql_level(at: Span, args: &[Datum]) -> Level<'_>
 {
     match args {
         [object] => Level::Object(object),
+        _ => refused(RefusalKind::BadArgument, at),
+    }
+}
+
+/// SATISFIES of what the argument names (SATISFIES, 4.2.3).
+fn predicate_level(at: Span, arg: &Datum) -> Level<'_>
+    ensures value { shown result ≡ spec.predicate_form at (out-Form arg.now.form) }
+    ensures expandable { IsExpandable result }
+{
+    match &arg.form {
+        Form::Symbol(symbol) => Level::Predicate(symbol),
+        _ => refused(RefusalKind::BadArgument, at),
+    }
+}
+
+pub(crate) fn satisfies_level(at: Span, args: &[Datum]) -> Level<'_>
+    ensures value { shown result ≡ spec.satisfies_level at args.now }
+    ensures expandable { IsExpandable result }
+{
+    match args {
+        [arg] => predicate_level(at, arg),
         _ => refused(RefusalKind::BadArgument, at),
     }
 }

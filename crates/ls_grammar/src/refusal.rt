@@ -57,9 +57,6 @@ pub enum RefusalKind {
     /// The count of specifiers and objects passes the limit.
     #[error("the type specifier is too large")]
     TooManyNodes,
-    /// A type specifier that is not supported.
-    #[error("this type specifier is not supported")]
-    NotBuilt,
 }
 
 /// Why a datum is no type specifier, and where.

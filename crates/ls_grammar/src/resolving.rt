@@ -171,6 +171,7 @@ fn resolve_at(
         Level::Known(spec) => Ok(spec),
         Level::Named(name) => Ok(of_builtin(alloc, name)?),
         Level::Structure(name) => Ok(Spec::StructIs(name.copy()?)),
+        Level::Predicate(name) => Ok(Spec::Satisfies(name.copy()?)),
         Level::Object(object) => resolve_object(object, room),
         Level::Members(objects) => Ok(Spec::Or(resolve_objects(alloc, objects, room)?)),
         Level::AllOf(parts) => Ok(Spec::And(resolve_all(alloc, env, parts, left, room)?)),

@@ -10,7 +10,8 @@ ghost use Rattle.ls_grammar.specs.steps.Answering.{shown, IsExpandable};
 
 use crate::level::{
     Level, array_level, cons_level, eql_level, mod_level, named_level, not_level, range_level,
-    refused, signed_level, starred_level, string_level, unsigned_level, vector_level,
+    refused, satisfies_level, signed_level, starred_level, string_level, unsigned_level,
+    vector_level,
 };
 use crate::refusal::RefusalKind;
 use ls_env::{Env, NameStatus};
@@ -55,7 +56,7 @@ fn built_list(at: Span, args: &[Datum], name: Builtin) -> Level<'_>
         Builtin::SimpleBaseString => named_level(Builtin::BaseChar, true, at, args),
         Builtin::String => string_level(false, at, args),
         Builtin::SimpleString => string_level(true, at, args),
-        Builtin::Satisfies => refused(RefusalKind::NotBuilt, at),
+        Builtin::Satisfies => satisfies_level(at, args),
         _ => refused(RefusalKind::BadArgument, at),
     }
 }
@@ -68,9 +69,13 @@ fn built_atom(at: Span, name: Builtin) -> Level<'static>
     match name {
         Builtin::Star => refused(RefusalKind::StarNotAllowed, at),
         Builtin::Values => refused(RefusalKind::FunctionList, at),
-        Builtin::And | Builtin::Or | Builtin::Not | Builtin::Member | Builtin::Eql | Builtin::Mod =>
-            refused(RefusalKind::BadArgument, at),
-        Builtin::Satisfies => refused(RefusalKind::NotBuilt, at),
+        Builtin::And
+        | Builtin::Or
+        | Builtin::Not
+        | Builtin::Member
+        | Builtin::Eql
+        | Builtin::Satisfies
+        | Builtin::Mod => refused(RefusalKind::BadArgument, at),
         _ => Level::Named(name),
     }
 }

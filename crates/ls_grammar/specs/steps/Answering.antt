@@ -7,7 +7,7 @@ use Rattle.ls_grammar.specs.Numbers.{refusal}
 use Rattle.ls_tables.specs.Builtins.{stands_alone}
 use Rattle.ls_spec.specs.declared.spec.DimPattern.{DimPattern}
 use Rattle.ls_spec.specs.declared.spec.DimPattern.TheVariants as dimensions
-use Rattle.ls_spec.specs.Specifier.{structure_under}
+use Rattle.ls_spec.specs.Specifier.{structure_under, satisfies}
 use Rattle.ls_spec.specs.Meaning.{specifier}
 use Rattle.ls_spec.specs.Builtins.{expansion}
 use Rattle.ls_grammar.specs.declared.refusal.Refusal.{Refusal}
@@ -43,6 +43,7 @@ shown (variant.Refused x) = refused x
 shown (variant.Known s) = known (specifier s)
 shown (variant.Named b) = known (expansion b)
 shown (variant.Structure s) = known (structure_under s.now)
+shown (variant.Predicate p) = known (satisfies p.now)
 shown (variant.Object d) = object d.now
 shown (variant.Members ds) = members ds.now
 shown (variant.AllOf ds) = all_of ds.now
