@@ -1,6 +1,5 @@
 mod AppendLemmas
 mod WordLemmas
-mod DenotedLemmas
 mod LineLemmas
 mod ReportLemmas
 mod ToldLemmas

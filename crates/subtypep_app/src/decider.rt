@@ -1,17 +1,21 @@
 // The decision of queries under their budget.
 
-ghost use Rattle.std.specs.Prelude.{◌≡◌, ◌≤◌, ◌^◌, IfOk};
+ghost use Rattle.std.specs.Prelude.{◌≡◌, ◌≤◌, ◌<◌, ◌^◌, IfOk};
 ghost use Rattle.ls_spec.specs.Meaning.{specifier};
 ghost use Rattle.ls_spec.specs.Fits.{Fits};
-ghost use Rattle.ls_cells.specs.Cells.{IsBuilt};
 ghost use Rattle.ls_cells.specs.Kept.{structures_in, entries_in, Grows};
-ghost use Rattle.ls_decide.specs.Answers.{IsRight, IsPlainAnswer};
+ghost use Rattle.ls_object.specs.Universe.{IsObject, IsPlain};
+ghost use Rattle.ls_object.specs.Meaning.{lisp_object};
+ghost use Rattle.ls_env.specs.Environments.{structures_of};
+ghost use Rattle.ls_decide.specs.Answers.{IsRight, IsPlainAnswer, IsRightMembership};
 
-use ls_decide::{Answer, Session};
+use ls_decide::{Answer, Belongs, Session};
+use ls_env::Env;
 use ls_memo::Steps;
+use ls_object::Object;
 use ls_spec::Spec;
-use std::alloc::AllocError;
-use std::sync::ledger::Ledger;
+use std::alloc::{AllocError, Global};
+use std::sync::ledger::{Blank, Ledger};
 
 /// A session for all queries of a file, with the budget of each of them and the steps that they make.
 #[derive(Drop)]
@@ -23,13 +27,32 @@ pub(crate) struct Decider<L: Ledger> {
 }
 
 impl<L: Ledger> Decider<L> {
+    /// Of the structure types of a file, with a budget for each query. Its steps are counted by a ledger of their own.
+    pub(crate) fn new(
+        alloc: Global,
+        env: &Env,
+        budget: u64,
+        blank: Blank,
+    ) -> Result<Self, AllocError>
+        requires budget { budget ≤ 2 ^ 30 }
+        requires name { blank.name ≡ L.name }
+        requires parts { blank.parts ≡ L.parts }
+        requires some { 0 < L.parts }
+        ensures budget { IfOk result (λ decider. decider.budget ≡ budget) }
+        ensures structures { IfOk result (λ decider. structures_in decider.session ≡ structures_of env.now) }
+    {
+        Ok(Decider {
+            session: Session::new(alloc, env.tree().copy()?)?,
+            steps: Steps::new(blank),
+            budget,
+        })
+    }
+
     /// The right answer to whether every object of the first type belongs to the second. A query whose cost is more
     /// than the budget is not worked on.
     pub(crate) fn answer(&mut self, a: &Spec, b: &Spec) -> Result<Answer, AllocError>
         requires first { Fits (structures_in self.old.session) (specifier a.now) }
         requires second { Fits (structures_in self.old.session) (specifier b.now) }
-        requires first_built { IsBuilt (specifier a.now) }
-        requires second_built { IsBuilt (specifier b.now) }
         ensures budget { self.new.budget ≡ self.old.budget }
         ensures structures { structures_in self.new.session ≡ structures_in self.old.session }
         ensures keeps { Grows (entries_in self.old.session) (entries_in self.new.session) }
@@ -37,5 +60,19 @@ impl<L: Ledger> Decider<L> {
         ensures plain { IfOk result IsPlainAnswer }
     {
         self.session.subtypep(a, b, self.budget, &mut self.steps)
+    }
+
+    /// The right answer to whether the object, which has no marks, belongs to the type. A query whose cost is more than
+    /// the budget is not worked on.
+    pub(crate) fn place(&mut self, object: &Object, s: &Spec) -> Result<Belongs, AllocError>
+        requires plain { IsPlain (lisp_object object.now) }
+        requires object { IsObject (structures_in self.old.session) (lisp_object object.now) }
+        requires fits { Fits (structures_in self.old.session) (specifier s.now) }
+        ensures budget { self.new.budget ≡ self.old.budget }
+        ensures structures { structures_in self.new.session ≡ structures_in self.old.session }
+        ensures keeps { Grows (entries_in self.old.session) (entries_in self.new.session) }
+        ensures right { IfOk result (IsRightMembership (structures_in self.old.session) (lisp_object object.now) (specifier s.now) self.old.budget) }
+    {
+        self.session.typep(object, s, self.budget, &mut self.steps)
     }
 }

@@ -16,6 +16,8 @@ use ls_reader::{Datum, Form};
 pub(crate) enum Question<'a> {
     /// Whether the type of the first datum is included in that of the second.
     Inclusion(&'a Datum, &'a Datum),
+    /// Whether the object of the first datum belongs to the type of the second.
+    Membership(&'a Datum, &'a Datum),
     /// Nothing: this is wrong with it.
     Refused(Refusal),
 }
@@ -53,6 +55,27 @@ fn subtypep_question<'a>(form: &'a Datum, args: &'a [Datum]) -> Question<'a>
     }
 }
 
+/// The question about an object and the value of a type argument.
+fn membership_question<'a>(object: &'a Datum, of: &'a Datum) -> Question<'a>
+    ensures { posed result ≡ spec.membership_question object.now of.now (value_of of.now) }
+{
+    match value_of(of) {
+        Argument::Evaluated => bad_argument(of),
+        Argument::Known(a) => Question::Membership(object, a),
+    }
+}
+
+/// What a TYPEP form with these arguments asks.
+fn typep_question<'a>(form: &'a Datum, args: &'a [Datum]) -> Question<'a>
+    ensures { posed result ≡ spec.typep_question form.now args.now }
+{
+    match args {
+        [object, of] => membership_question(object, of),
+        [object, of, _] => membership_question(object, of),
+        _ => bad_argument(form),
+    }
+}
+
 /// What stands behind the operator of a form.
 fn arguments_in(form: &Datum) -> &[Datum]
     ensures { result.now ≡ spec.arguments_in (out-Form form.now.form) }
@@ -70,11 +93,9 @@ fn arguments_in(form: &Datum) -> &[Datum]
 pub(crate) fn question_of(query: &Query) -> Question<'_>
     ensures { posed result ≡ spec.question_of query.now }
 {
+    let args = arguments_in(&query.form);
     match query.kind {
-        QueryKind::Subtypep => subtypep_question(&query.form, arguments_in(&query.form)),
-        QueryKind::Typep => Question::Refused(Refusal {
-            kind: RefusalKind::NotBuilt,
-            place: query.form.span,
-        }),
+        QueryKind::Subtypep => subtypep_question(&query.form, args),
+        QueryKind::Typep => typep_question(&query.form, args),
     }
 }

@@ -2,20 +2,17 @@
 
 ghost use Rattle.ls_env.specs.Environments.{structures_of};
 ghost use Rattle.std.specs.Prelude.{◌≡◌, ◌<◌, ◌≤◌, ◌++◌, ◌^◌, [], length, IfOk, OnOk};
-ghost use Rattle.std.specs.Str.{IsAscii};
 ghost use Rattle.ls_io.specs.Moves.{limit};
 ghost use Rattle.ls_cells.specs.Kept.{structures_in, entries_in, Grows};
 ghost use Rattle.subtypep_app.specs.Replies.{IsAnswered};
-ghost use Rattle.subtypep_app.specs.Report.{AreReported, IsLineOf, IsReport, fault_body, fault_text, is_finding, line_text, place_text};
+ghost use Rattle.subtypep_app.specs.Report.{AreReported, IsLineOf, IsReport, fault_body, fault_text, is_finding, line_text};
 ghost use Rattle.subtypep_app.specs.steps.Reporting.{LineAppended, status_for};
 
 use crate::decider::Decider;
 use crate::line::line_of;
 use crate::status::Status;
-use crate::text::{push_line, push_place};
-use ls_decide::Session;
+use crate::text::{push_at, push_line};
 use ls_env::{Env, Query};
-use ls_memo::Steps;
 use ls_object::{Items, Text};
 use ls_reader::{Datum, ReadError, Span, read_text};
 use std::alloc::{AllocError, Global};
@@ -72,36 +69,35 @@ fn push_queries<L: Ledger>(
     Ok(found)
 }
 
-/// The report on the queries of a file, and whether one of its lines is a finding. All queries are asked of one session;
-/// its steps are counted by a ledger of their own.
-fn report_on<L: Ledger>(
+/// Appends a line for each query of a file, and says whether one of them is a finding. All are asked of one session; its
+/// steps are counted by a ledger of their own.
+fn push_report<L: Ledger>(
     alloc: Global,
+    env: &Env,
     budget: u64,
-    forms: &Items<Datum>,
     blank: Blank,
-) -> Result<(Text, bool), AllocError>
+    out: &mut Text,
+) -> Result<bool, AllocError>
     requires budget { budget ≤ 2 ^ 30 }
     requires name { blank.name ≡ L.name }
     requires parts { blank.parts ≡ L.parts }
     requires some { 0 < L.parts }
+    requires empty { out.old ≡ [] }
+    ensures { IfOk result
+        (λ found. AreReported (IsLineOf budget env.now) line_text is_finding env.now.queries found out.new) }
+{
+    let mut decider = Decider::<L>::new(alloc, env, budget, blank)?;
+    push_queries(alloc, env, &mut decider, env.queries().as_slice(), out)
+}
+
+/// The report on the queries of a file, and whether one of its lines is a finding.
+fn report_on(alloc: Global, budget: u64, forms: &Items<Datum>) -> Result<(Text, bool), AllocError>
+    requires { budget ≤ 2 ^ 30 }
     ensures { IfOk result (λ made. IsReport budget forms.now made.1 made.0) }
 {
     let env = Env::of_file(alloc, forms)?;
-    let session = Session::new(alloc, env.tree().copy()?)?;
-    let steps = Steps::<L>::new(blank);
-    let mut decider = Decider {
-        session,
-        steps,
-        budget,
-    };
     let mut text = Text::of_ascii(alloc, "")?;
-    let found = push_queries(
-        alloc,
-        &env,
-        &mut decider,
-        env.queries().as_slice(),
-        &mut text,
-    )?;
+    let found = push_report::<Brand>(alloc, &env, budget, Blank::new(1), &mut text)?;
     Ok((text, found))
 }
 
@@ -116,25 +112,16 @@ fn push_fault_body(out: &mut Text, error: &ReadError) -> Result<(), AllocError>
     ensures { OnOk result (out.new ≡ out.old ++ fault_body error.now) }
 {
     match error {
-        ReadError::NotUtf8(span) => push_fault(out, "NOT-UTF8 ", *span),
-        ReadError::BadToken(span) => push_fault(out, "BAD-TOKEN ", *span),
-        ReadError::StrayClose(span) => push_fault(out, "STRAY-CLOSE ", *span),
-        ReadError::Unclosed(span) => push_fault(out, "UNCLOSED ", *span),
-        ReadError::BadDot(span) => push_fault(out, "BAD-DOT ", *span),
-        ReadError::TooDeep(span) => push_fault(out, "TOO-DEEP ", *span),
-        ReadError::ZeroDenominator(span) => push_fault(out, "ZERO-DENOMINATOR ", *span),
-        ReadError::Label(span) => push_fault(out, "LABEL ", *span),
+        ReadError::NotUtf8(span) => push_at(out, "NOT-UTF8 ", *span),
+        ReadError::BadToken(span) => push_at(out, "BAD-TOKEN ", *span),
+        ReadError::StrayClose(span) => push_at(out, "STRAY-CLOSE ", *span),
+        ReadError::Unclosed(span) => push_at(out, "UNCLOSED ", *span),
+        ReadError::BadDot(span) => push_at(out, "BAD-DOT ", *span),
+        ReadError::TooDeep(span) => push_at(out, "TOO-DEEP ", *span),
+        ReadError::ZeroDenominator(span) => push_at(out, "ZERO-DENOMINATOR ", *span),
+        ReadError::Label(span) => push_at(out, "LABEL ", *span),
         ReadError::Memory => Ok(()),
     }
-}
-
-fn push_fault(out: &mut Text, kind: &str, span: Span) -> Result<(), AllocError>
-    requires { IsAscii kind.now }
-    ensures { OnOk result (out.new ≡ out.old ++ (kind.now ++ place_text span)) }
-{
-    out.push_ascii(kind)?;
-    push_place(out, span)?;
-    Ok(())
 }
 
 /// The one line of a text that has a fault.
@@ -155,7 +142,7 @@ pub(crate) fn report_of(alloc: Global, budget: u64, text: &[u8]) -> Result<Repor
 {
     match read_text(alloc, text) {
         Ok(forms) => {
-            let (text, found) = report_on::<Brand>(alloc, budget, &forms, Blank::new(1))?;
+            let (text, found) = report_on(alloc, budget, &forms)?;
             let status = status_for(found);
             Ok(Report { text, status })
         }

@@ -5,6 +5,8 @@ mod arrays;
 mod budgets;
 mod conses;
 mod deftype;
+mod members;
+mod predicates;
 mod refusals;
 mod streams;
 mod structures;

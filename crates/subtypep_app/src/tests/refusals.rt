@@ -6,7 +6,7 @@ use ls_io::LIMIT;
 use std::test::Fail;
 
 /// Texts with a refused query, and their lines.
-const REFUSED: [Row<'static>; 26] = [
+const REFUSED: [Row<'static>; 20] = [
     (
         b"(subtypep '(float 0.0 1.0) 'float)",
         b"1:1 REFUSED FLOAT-RANGE 1:12\n",
@@ -40,22 +40,6 @@ const REFUSED: [Row<'static>; 26] = [
         b"1:1 REFUSED BAD-ARGUMENT 1:12\n",
     ),
     (
-        b"(subtypep '(satisfies p) 'integer)",
-        b"1:1 REFUSED NOT-BUILT 1:12\n",
-    ),
-    (
-        b"(subtypep '(and (satisfies p)) 'integer)",
-        b"1:1 REFUSED NOT-BUILT 1:17\n",
-    ),
-    (
-        b"(subtypep 'integer '(satisfies p))",
-        b"1:1 REFUSED NOT-BUILT 1:21\n",
-    ),
-    (
-        b"(subtypep '(vector (satisfies p)) 'bit-vector)",
-        b"1:1 REFUSED NOT-BUILT 1:20\n",
-    ),
-    (
         b"(subtypep '(vector t (2)) 'sequence)",
         b"1:1 REFUSED BAD-ARGUMENT 1:22\n",
     ),
@@ -63,8 +47,8 @@ const REFUSED: [Row<'static>; 26] = [
     (b"(subtypep 't :a)", b"1:1 REFUSED UNKNOWN-TYPE 1:14\n"),
     // The refusal of the first type comes first.
     (
-        b"(subtypep '(satisfies p) '(float 1))",
-        b"1:1 REFUSED NOT-BUILT 1:12\n",
+        b"(subtypep '(satisfies) '(float 1))",
+        b"1:1 REFUSED BAD-ARGUMENT 1:12\n",
     ),
     // An argument that is not quoted comes before it.
     (
@@ -90,11 +74,6 @@ const REFUSED: [Row<'static>; 26] = [
     (
         b"(subtypep cons 't 't 't)",
         b"1:1 REFUSED BAD-ARGUMENT 1:1\n",
-    ),
-    (b"(typep 1 'integer)", b"1:1 REFUSED NOT-BUILT 1:1\n"),
-    (
-        b"(progn 1\n(subtypep t t)\n(typep))",
-        b"2:1 T\n3:1 REFUSED NOT-BUILT 3:1\n",
     ),
 ];
 

@@ -2,7 +2,6 @@ use Rattle.std.proofs.Common.{sym, subst}
 use Rattle.ls_spec.specs.Fits.{Fits}
 use Rattle.ls_spec.specs.Meaning.{specifier}
 use Rattle.ls_decide.specs.Answers.{IsRight}
-use Rattle.subtypep_app.proofs.DenotedLemmas.{denoted-built}
 use Rattle.subtypep_app.proofs.line.inclusion_line.Goals as goal
 
 pub answer-requires-clause-first : goal.answer-requires-clause-first
@@ -10,12 +9,6 @@ answer-requires-clause-first g c = subst (λ structures. Fits structures (specif
 
 pub answer-requires-clause-second : goal.answer-requires-clause-second
 answer-requires-clause-second g c = subst (λ structures. Fits structures (specifier c.in-Ok-resolve.spec)) (sym c.requires.structures) c.in-Ok-resolve.ensures.fits
-
-pub answer-requires-clause-first_built : goal.answer-requires-clause-first_built
-answer-requires-clause-first_built g c = denoted-built c.args.env.now c.args.first.now (specifier c.in-Ok.spec) c.in-Ok.ensures.ok.denotes
-
-pub answer-requires-clause-second_built : goal.answer-requires-clause-second_built
-answer-requires-clause-second_built g c = denoted-built c.args.env.now c.args.second.now (specifier c.in-Ok-resolve.spec) c.in-Ok-resolve.ensures.ok.denotes
 
 -- both types resolve, and the answer is right about them over the environment's structure types
 pub returns-clause-right : goal.returns-clause-right
