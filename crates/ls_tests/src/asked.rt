@@ -4,6 +4,7 @@ use crate::copies::{push_approximations, push_copies, push_keys};
 use crate::decide::{push_pair_cost, push_type_cost};
 use crate::intern::{push_counts, push_numbers, push_trees};
 use crate::points::{Class, push_shares, push_within};
+use crate::predicates::push_predicates;
 use crate::sides::{push_levels, push_sides};
 use crate::slow::push_slow;
 use crate::spec::{push_atoms, push_members};
@@ -32,6 +33,7 @@ pub(crate) enum Asked {
     Within,
     Codes(u16),
     Slow,
+    Predicates,
 }
 
 /// Writes the answer.
@@ -53,6 +55,7 @@ fn push_told(alloc: Global, out: &mut String, asked: Asked, list: &Items<Spec>) 
         Asked::Within => push_within(alloc, out, list),
         Asked::Codes(budget) => push_codes(alloc, out, budget, list.as_slice()),
         Asked::Slow => push_slow(alloc, out, list.as_slice()),
+        Asked::Predicates => push_predicates(alloc, out, list.as_slice()),
     }
 }
 

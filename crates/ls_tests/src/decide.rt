@@ -15,12 +15,8 @@ fn push_cost(out: &mut String, told: u64, same: Option<u64>, less: Option<u64>) 
     Some(())
 }
 
-/// Writes what the pair of a list costs.
-pub(crate) fn push_pair_cost(alloc: Global, out: &mut String, list: &[Spec]) -> Option<()> {
-    let [a, b] = list else {
-        return None;
-    };
-    let session = Session::new(alloc, Tree::new(alloc)).ok()?;
+/// Writes what a session says that a pair costs.
+fn push_cost_of_pair(session: &Session, out: &mut String, a: &Spec, b: &Spec) -> Option<()> {
     let told = session.cost(a, b, 1 << 30).ok()??;
     let less = told.checked_sub(1)?;
     if told > 1 << 30 {
@@ -31,10 +27,17 @@ pub(crate) fn push_pair_cost(alloc: Global, out: &mut String, list: &[Spec]) -> 
     push_cost(out, told, same, refused)
 }
 
-/// Writes what the first of a list costs where its members are asked for (TYPEP).
-pub(crate) fn push_type_cost(alloc: Global, out: &mut String, list: &[Spec]) -> Option<()> {
-    let s = list.first()?;
+/// Writes what the pair of a list costs.
+pub(crate) fn push_pair_cost(alloc: Global, out: &mut String, list: &[Spec]) -> Option<()> {
+    let [a, b] = list else {
+        return None;
+    };
     let session = Session::new(alloc, Tree::new(alloc)).ok()?;
+    push_cost_of_pair(&session, out, a, b)
+}
+
+/// Writes what a session says that a type costs where its members are asked for (TYPEP).
+fn push_cost_of_type(session: &Session, out: &mut String, s: &Spec) -> Option<()> {
     let told = session.typep_cost(s, 1 << 30).ok()??;
     let less = told.checked_sub(1)?;
     if told > 1 << 30 {
@@ -43,6 +46,13 @@ pub(crate) fn push_type_cost(alloc: Global, out: &mut String, list: &[Spec]) -> 
     let same = session.typep_cost(s, told).ok()?;
     let refused = session.typep_cost(s, less).ok()?;
     push_cost(out, told, same, refused)
+}
+
+/// Writes what the first of a list costs where its members are asked for.
+pub(crate) fn push_type_cost(alloc: Global, out: &mut String, list: &[Spec]) -> Option<()> {
+    let s = list.first()?;
+    let session = Session::new(alloc, Tree::new(alloc)).ok()?;
+    push_cost_of_type(&session, out, s)
 }
 
 /// Pairs of types and what they cost.
@@ -67,13 +77,15 @@ const COSTS: [(&str, &str); 6] = [
 ];
 
 /// Types and what it costs to ask for their members.
-const TYPEP_COSTS: [(&str, &str); 4] = [
+const TYPEP_COSTS: [(&str, &str); 5] = [
     ("(vector (mod 100))", "109"),
     ("(vector (signed-byte 8))", "103"),
     // an element type is compared with the table once
     ("(and (vector (mod 100)) (vector (mod 100)))", "109"),
     // 109 for (MOD 100); and for the vectors of it 20, 78 for 13 ranges, 2 for kinds, 8 for vectors and 1
     ("(vector (vector (mod 100)))", "218"),
+    // twice 103 for BIT
+    ("(vector (and bit (satisfies p)))", "206"),
 ];
 
 /// The OR of so many conses of a keyword and, behind it, an integer, a symbol and NIL; then what it is included in.

@@ -29,7 +29,7 @@ pub fn resolution(alloc: Global, text: &str) -> Option<String> {
     Some(out)
 }
 
-const RESOLVED: [(&str, &str); 33] = [
+const RESOLVED: [(&str, &str); 35] = [
     ("t", "all"),
     ("nil", "nothing"),
     ("null", "NIL"),
@@ -72,9 +72,14 @@ const RESOLVED: [(&str, &str); 33] = [
     ("atom", "not (cons all all)"),
     ("list", "(or NIL (cons all all))"),
     ("sequence", "(or (or NIL (cons all all)) (array * *))"),
+    ("(satisfies evenp)", "satisfying EVENP"),
+    (
+        "(and bit (not (satisfies *)))",
+        "(and integer:0..1 not satisfying *)",
+    ),
 ];
 
-const REFUSED: [(&str, &str); 56] = [
+const REFUSED: [(&str, &str); 60] = [
     ("(float 1 2 3)", "FloatRange 1"),
     ("(or t (real 0))", "FloatRange 7"),
     ("(long-float * * *)", "BadArgument 1"),
@@ -126,7 +131,11 @@ const REFUSED: [(&str, &str); 56] = [
     ("(cons * (or *))", "StarNotAllowed 13"),
     ("(cons (eql) (mod 0))", "BadArgument 7"),
     ("(sequence)", "BadArgument 1"),
-    ("satisfies", "NotBuilt 1"),
+    ("satisfies", "BadArgument 1"),
+    ("(satisfies)", "BadArgument 1"),
+    ("(satisfies p q)", "BadArgument 1"),
+    ("(not (satisfies 'p))", "BadArgument 6"),
+    ("(satisfies (p))", "BadArgument 1"),
     ("(foo *)", "UnknownType 1"),
     ("(not foo)", "UnknownType 6"),
     ("'integer", "UnknownType 1"),
@@ -171,7 +180,13 @@ fn nested_resolution(alloc: Global, open: &str, depth: usize) -> Option<String> 
 }
 
 /// An opening, an item so many times, and what closes it.
-fn many(alloc: Global, open: &str, item: &str, count: usize, close: &str) -> Option<String> {
+pub(crate) fn many(
+    alloc: Global,
+    open: &str,
+    item: &str,
+    count: usize,
+    close: &str,
+) -> Option<String> {
     let mut text = String::from_str(alloc, open).ok()?;
     for _ in 0..count {
         text.push_str(item).ok()?;

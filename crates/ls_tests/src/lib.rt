@@ -8,8 +8,6 @@ mod arrays;
 #[cfg(test)]
 mod asked;
 #[cfg(test)]
-mod built;
-#[cfg(test)]
 mod builtin;
 #[cfg(test)]
 mod copies;
@@ -28,11 +26,17 @@ mod intern;
 #[cfg(test)]
 mod io;
 #[cfg(test)]
+mod literal;
+#[cfg(test)]
+mod marks;
+#[cfg(test)]
 mod memo;
 #[cfg(test)]
 mod object;
 #[cfg(test)]
 mod points;
+#[cfg(test)]
+mod predicates;
 #[cfg(test)]
 mod print;
 #[cfg(test)]
@@ -55,5 +59,7 @@ mod structs;
 mod tables;
 #[cfg(test)]
 mod texts;
+#[cfg(test)]
+mod typep;
 #[cfg(test)]
 mod upgrade;

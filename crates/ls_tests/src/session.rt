@@ -4,7 +4,6 @@
 ghost use Rattle.std.specs.Prelude.{◌≡◌, ◌<◌, []};
 ghost use Rattle.ls_cells.specs.Kept.{structures_in};
 
-use crate::built::is_built;
 use crate::decide::tagged;
 use crate::texts::list_of;
 use ls_decide::{Answer, Session};
@@ -17,7 +16,7 @@ use std::marker::Brand;
 use std::sync::ledger::{Blank, Ledger};
 
 /// Writes an object without marks.
-fn push_object(alloc: Global, out: &mut String, object: &Object) -> Option<()> {
+pub(crate) fn push_object(alloc: Global, out: &mut String, object: &Object) -> Option<()> {
     let mut text = Text::of(alloc, "").ok()?;
     if !object.is_plain() {
         return None;
@@ -39,8 +38,7 @@ fn push_answer(alloc: Global, out: &mut String, answer: &Answer) -> Option<()> {
     }
 }
 
-/// Asks whether the first type is included in the second, within the budget; None where a session does not decide that
-/// so far.
+/// Asks whether the first type is included in the second, within the budget; None where one of them is past the limits.
 fn answer_of<L: Ledger>(
     alloc: Global,
     session: &mut Session,
@@ -53,7 +51,7 @@ fn answer_of<L: Ledger>(
     ensures { structures_in session.new ≡ [] }
 {
     let parents = Parents::new(alloc);
-    if is_built(a) && is_built(b) && a.fits(&parents) && b.fits(&parents) {
+    if a.fits(&parents) && b.fits(&parents) {
         session.subtypep(a, b, u64::from(budget), steps).ok()
     } else {
         None
@@ -105,23 +103,24 @@ fn answers_by<L: Ledger>(
     alloc: Global,
     list: &[Spec],
     budgets: &[u16],
+    out: &mut String,
     blank: Blank,
-) -> Option<String>
+) -> Option<()>
     requires name { blank.name ≡ L.name }
     requires parts { blank.parts ≡ L.parts }
     requires some { 0 < L.parts }
 {
     let mut session = Session::new(alloc, Tree::new(alloc)).ok()?;
     let mut steps = Steps::<L>::new(blank);
-    let mut out = String::new(alloc);
-    ask_all(alloc, &mut session, &mut steps, list, budgets, &mut out)?;
-    Some(out)
+    ask_all(alloc, &mut session, &mut steps, list, budgets, out)
 }
 
 /// The answers of one session about the pairs of a text.
 fn answers(alloc: Global, text: &str, budgets: &[u16]) -> Option<String> {
     let list = list_of(alloc, text)?;
-    answers_by::<Brand>(alloc, list.as_slice(), budgets, Blank::new(1))
+    let mut out = String::new(alloc);
+    answers_by::<Brand>(alloc, list.as_slice(), budgets, &mut out, Blank::new(1))?;
+    Some(out)
 }
 
 /// Whether these are the answers.
@@ -154,6 +153,15 @@ const ARRAY_PAIRS: &str = "(simple-array (mod 100) (3)) (vector (signed-byte 8))
 /// and T 18; BASE-CHAR, CHARACTER and NIL have 18 each. The other pairs have 2, 2, 3 and 6 rows.
 const ARRAY_ANSWERS: &str = "TOO-LARGE 0/0; NIL #<ARRAY (UNSIGNED-BYTE 7) (3) SIMPLE> 40/3; \
     NIL #<ARRAY (UNSIGNED-BYTE 7) (3) SIMPLE> 40/3; T 60/5; T 117/9; T 120/10; T 180/14; T 180/14; ";
+
+/// Pairs with predicates in element types, the first twice. Arrays can hold what any predicate is true of.
+const PREDICATE_PAIRS: &str = "(vector (and bit (satisfies p))) bit-vector \
+    (vector (and bit (satisfies p))) bit-vector (vector (satisfies p)) (vector t) \
+    (vector (and integer (satisfies p))) (vector integer)";
+
+/// 33 for each pair; twice 103 and 103 for BIT, the same for T, and twice 109 and 109 for INTEGER. A predicate doubles the
+/// rows, which are 18 for BIT and T and 19 for INTEGER; each pair has 2.
+const PREDICATE_ANSWERS: &str = "TOO-LARGE 0/0; T 56/3; T 112/6; T 171/9; ";
 
 /// The OR of the vectors of so many element types, which are all of one code, and those of that code.
 fn many_vectors(alloc: Global, count: u32) -> Option<String> {
@@ -191,6 +199,8 @@ fn a_session_keeps_what_it_makes(rt: HostRuntime) {
     assert!(rt; is_answered(rt.alloc(), PAIRS, &budgets, ANSWERS));
     let budgets = [250, 251, 251, 245, 348, 25, 358, 25];
     assert!(rt; is_answered(rt.alloc(), ARRAY_PAIRS, &budgets, ARRAY_ANSWERS));
+    let budgets = [341, 342, 342, 360];
+    assert!(rt; is_answered(rt.alloc(), PREDICATE_PAIRS, &budgets, PREDICATE_ANSWERS));
     // 65 rows for the pair and as many for its cars, 4 for the cdrs, and 2 for each of four lists below
     let text = thrice(rt.alloc());
     assert!(rt; text.is_some());

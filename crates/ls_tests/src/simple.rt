@@ -3,15 +3,13 @@
 ghost use Rattle.std.specs.Prelude.{IsTrue};
 ghost use Rattle.ls_spec.specs.Meaning.{specifier, specifiers};
 ghost use Rattle.ls_spec.specs.SelfContained.{IsSelfContained, AreSelfContained};
-ghost use Rattle.ls_cells.specs.Cells.{IsBuilt, AreBuilt};
 
 use ls_spec::Spec;
 
-/// Whether it has no array, no string, no predicate and no structure name.
+/// Whether it has no element type and no structure name.
 #[cycle(simple)]
 pub(crate) fn is_simple(spec: &Spec) -> bool
-    ensures built { IsTrue result → IsBuilt (specifier spec.now) }
-    ensures contained { IsTrue result → IsSelfContained (specifier spec.now) }
+    ensures { IsTrue result → IsSelfContained (specifier spec.now) }
 {
     match spec {
         Spec::And(parts) => are_simple(parts.as_slice()),
@@ -19,13 +17,16 @@ pub(crate) fn is_simple(spec: &Spec) -> bool
         Spec::Not(part) => is_simple(part.get()),
         Spec::ConsOf(car, cdr) => is_simple(car.get()) && is_simple(cdr.get()),
         Spec::ArrayOf {
-            elem: _,
+            elem,
             simple: _,
             dims: _,
-        } => false,
-        Spec::StringOf { simple: _, dim: _ } => false,
+        } => match elem {
+            None => true,
+            Some(_) => false,
+        },
         Spec::StructIs(_) => false,
-        Spec::Satisfies(_) => false,
+        Spec::StringOf { simple: _, dim: _ } => true,
+        Spec::Satisfies(_) => true,
         Spec::All => true,
         Spec::Nothing => true,
         Spec::Eql(_) => true,
@@ -43,8 +44,7 @@ pub(crate) fn is_simple(spec: &Spec) -> bool
 
 #[cycle(simple)]
 fn are_simple(parts: &[Spec]) -> bool
-    ensures built { IsTrue result → AreBuilt (specifiers parts.now) }
-    ensures contained { IsTrue result → AreSelfContained (specifiers parts.now) }
+    ensures { IsTrue result → AreSelfContained (specifiers parts.now) }
 {
     for part in parts {
         if !is_simple(part) {

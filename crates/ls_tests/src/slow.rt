@@ -1,12 +1,11 @@
-// The answers of a session beside those of a plain slow program: a type is included in another where each of some
-// objects that belongs to it belongs to the other. The objects tell apart all of the types that differ.
+//! The answers of a session beside those of a plain slow program: a type is included in another where each of some
+//! objects that belongs to it belongs to the other. The objects tell apart all of the types that differ.
 
 ghost use Rattle.std.specs.Prelude.{◌≡◌, ◌<◌, []};
-ghost use Rattle.ls_spec.specs.Meaning.{specifier};
-ghost use Rattle.ls_spec.specs.SelfContained.{IsSelfContained};
 ghost use Rattle.ls_cells.specs.Kept.{structures_in};
 
 use crate::asked::{Asked, told};
+use crate::marks::marked;
 use crate::simple::is_simple;
 use crate::spec::object_of;
 use ls_decide::{Answer, Session};
@@ -27,32 +26,78 @@ fn objects_of(alloc: Global, list: &[Spec]) -> Option<Items<Object>> {
     Some(objects)
 }
 
-/// Whether each of the objects that belongs to the first type belongs to the second.
-fn is_included(a: &Spec, b: &Spec, objects: &[Object]) -> bool
-    requires first { IsSelfContained (specifier a.now) }
-    requires second { IsSelfContained (specifier b.now) }
-{
-    for object in objects {
-        if belongs(a, object) && !belongs(b, object) {
-            return false;
-        }
+/// Whether the object belongs to the first type alone; None where one of them asks about more than one object.
+fn is_apart(a: &Spec, b: &Spec, object: &Object) -> Option<bool> {
+    if !(is_simple(a) && is_simple(b)) {
+        return None;
     }
-    true
+    Some(belongs(a, object) && !belongs(b, object))
 }
 
-/// Whether the answer is the slow one; a witness has to belong to the first type alone.
-fn agrees(a: &Spec, b: &Spec, objects: &[Object], answer: &Answer) -> bool
-    requires first { IsSelfContained (specifier a.now) }
-    requires second { IsSelfContained (specifier b.now) }
-{
-    match answer {
-        Answer::Yes => is_included(a, b, objects),
-        Answer::No(object) => !is_included(a, b, objects)
-            && belongs(a, object)
-            && !belongs(b, object),
-        Answer::Unsure(_) => false,
-        Answer::TooLarge => false,
+/// Whether it surely belongs to the first, and surely not to the second: whatever the predicates mean.
+fn is_surely_apart(alloc: Global, a: &Spec, b: &Spec, object: &Object) -> Option<bool> {
+    let low = a.low(alloc).ok()?;
+    let high = b.high(alloc).ok()?;
+    is_apart(&low, &high, object)
+}
+
+/// Whether one of the objects belongs to the first type alone.
+fn some_apart(a: &Spec, b: &Spec, objects: &[Object]) -> Option<bool> {
+    for object in objects {
+        if is_apart(a, b, object)? {
+            return Some(true);
+        }
     }
+    Some(false)
+}
+
+/// Whether one of them surely does.
+fn some_surely_apart(alloc: Global, a: &Spec, b: &Spec, objects: &[Object]) -> Option<bool> {
+    for object in objects {
+        if is_surely_apart(alloc, a, b, object)? {
+            return Some(true);
+        }
+    }
+    Some(false)
+}
+
+/// Whether the object with these marks belongs to the first type alone.
+fn is_apart_by(alloc: Global, a: &Spec, b: &Spec, object: &Object, choice: u32) -> Option<bool> {
+    let mut rest = choice;
+    let marked = marked(alloc, object, &mut rest)?;
+    is_apart(a, b, &marked)
+}
+
+/// The choices of marks of five nodes.
+const CHOICES: u32 = 1024;
+
+/// Whether it does with some marks.
+fn is_apart_with_marks(alloc: Global, a: &Spec, b: &Spec, object: &Object) -> Option<bool> {
+    for choice in 0..CHOICES {
+        if is_apart_by(alloc, a, b, object, choice)? {
+            return Some(true);
+        }
+    }
+    Some(false)
+}
+
+/// The slow answer: `-` where an object is surely apart, `?` where one is apart, and else `T`.
+fn slow_answer(alloc: Global, a: &Spec, b: &Spec, objects: &[Object]) -> Option<&'static str> {
+    if some_surely_apart(alloc, a, b, objects)? {
+        return Some("-");
+    }
+    Some(if some_apart(a, b, objects)? { "?" } else { "T" })
+}
+
+/// The answer in the same way; a witness has to be as it says, and `!` stands for one that is not.
+fn shown(alloc: Global, a: &Spec, b: &Spec, answer: &Answer) -> Option<&'static str> {
+    let (right, text) = match answer {
+        Answer::Yes => (true, "T"),
+        Answer::No(object) => (is_surely_apart(alloc, a, b, object)?, "-"),
+        Answer::Unsure(object) => (is_apart_with_marks(alloc, a, b, object)?, "?"),
+        Answer::TooLarge => (false, "!"),
+    };
+    Some(if right { text } else { "!" })
 }
 
 /// Asks about two types, and writes the answer, or `!` where it is not the slow one.
@@ -69,18 +114,13 @@ fn ask<L: Ledger>(
     ensures { structures_in session.new ≡ [] }
 {
     let parents = Parents::new(alloc);
-    if !(is_simple(a) && is_simple(b) && a.fits(&parents) && b.fits(&parents)) {
+    if !(a.fits(&parents) && b.fits(&parents)) {
         return None;
     }
-    let answer = session.subtypep(a, b, 10_000, steps).ok()?;
-    out.push_str(if !agrees(a, b, objects, &answer) {
-        "!"
-    } else if is_included(a, b, objects) {
-        "T"
-    } else {
-        "-"
-    })
-    .ok()
+    let answer = session.subtypep(a, b, 100_000, steps).ok()?;
+    let found = shown(alloc, a, b, &answer)?;
+    let want = slow_answer(alloc, a, b, objects)?;
+    out.push_str(if found == want { found } else { "!" }).ok()
 }
 
 /// Asks one session about a type and each of a list.
@@ -102,8 +142,27 @@ fn ask_all<L: Ledger>(
     Some(())
 }
 
+/// Asks about each two of the types.
+fn ask_each<L: Ledger>(
+    alloc: Global,
+    session: &mut Session,
+    steps: &mut Steps<L>,
+    types: &[Spec],
+    objects: &[Object],
+    out: &mut String,
+) -> Option<()>
+    requires { structures_in session.old ≡ [] }
+    ensures { structures_in session.new ≡ [] }
+{
+    for a in types {
+        ask_all(alloc, session, steps, a, types, objects, out)?;
+        out.push_str(" ").ok()?;
+    }
+    Some(())
+}
+
 /// Asks one session about each two of the types.
-fn ask_pairs<L: Ledger>(
+pub(crate) fn ask_pairs<L: Ledger>(
     alloc: Global,
     types: &[Spec],
     objects: &[Object],
@@ -116,11 +175,7 @@ fn ask_pairs<L: Ledger>(
 {
     let mut session = Session::new(alloc, Tree::new(alloc)).ok()?;
     let mut steps = Steps::<L>::new(blank);
-    for a in types {
-        ask_all(alloc, &mut session, &mut steps, a, types, objects, out)?;
-        out.push_str(" ").ok()?;
-    }
-    Some(())
+    ask_each(alloc, &mut session, &mut steps, types, objects, out)
 }
 
 /// So many types come first, and then what stands for objects.
@@ -147,7 +202,7 @@ const TYPES_AND_OBJECTS: &str =
     (cons (eql 2) null) (cons (eql 2) (eql :a)) (cons (eql 2) (eql 1)) (cons (eql 2) (eql #\\A))";
 
 /// How often a byte stands in a text.
-fn count(text: &str, wanted: u8) -> usize {
+pub(crate) fn count(text: &str, wanted: u8) -> usize {
     let mut found = 0;
     for byte in text.as_bytes() {
         if *byte == wanted && found < 100_000 {

@@ -48,9 +48,6 @@ fn push_form(out: &mut String, form: &StructForm) -> Option<()> {
 
 /// Adds what a form defines to the tree, and writes it, or why it isn't added.
 fn add(alloc: Global, tree: &mut Tree, datum: &Datum, out: &mut String) -> Option<()> {
-    if !StructForm::is_one(datum) {
-        return out.push_str("- ").ok();
-    }
     match StructForm::of(alloc, datum) {
         Err(fault) => push_form_fault(out, fault),
         Ok(form) => match tree.add(&form) {
@@ -78,12 +75,11 @@ fn said(alloc: Global, text: &str) -> Option<String> {
 }
 
 /// Forms, each alone, and what they say.
-const FORMS: [(&str, &str); 30] = [
+const FORMS: [(&str, &str); 29] = [
     ("(defstruct a)", "A "),
     ("(defstruct a \"text\" x (y 0))", "A "),
     ("(defstruct (a) x)", "A "),
     ("(defstruct p::a) (defstruct :a)", "A A "),
-    ("(defun a) defstruct (:defstruct a)", "- - - "),
     ("(defstruct)", "no-name "),
     ("(defstruct \"a\")", "no-name "),
     ("(defstruct 1 a)", "no-name "),

@@ -5,7 +5,6 @@ ghost use Rattle.std.specs.Prelude.{◌≡◌, ◌<◌, []};
 ghost use Rattle.ls_cells.specs.Kept.{structures_in};
 
 use crate::asked::{Asked, is_told};
-use crate::built::is_built;
 use ls_decide::Session;
 use ls_memo::Steps;
 use ls_object::{Code, Parents};
@@ -15,7 +14,7 @@ use std::alloc::Global;
 use std::marker::Brand;
 use std::sync::ledger::{Blank, Ledger};
 
-/// Asks for the upgraded code of an element type, within the budget; None where a session does not decide that so far.
+/// Asks for the upgraded code of an element type, within the budget; None where it is past the limits.
 fn code_of<L: Ledger>(
     alloc: Global,
     session: &mut Session,
@@ -27,7 +26,7 @@ fn code_of<L: Ledger>(
     ensures { structures_in session.new ≡ [] }
 {
     let parents = Parents::new(alloc);
-    if is_built(element) && element.fits(&parents) {
+    if element.fits(&parents) {
         session.upgrade(element, u64::from(budget), steps).ok()
     } else {
         None
@@ -54,7 +53,26 @@ fn ask<L: Ledger>(
     write!(out, " {}/{}; ", session.rows(), session.kept()).ok()
 }
 
-/// The answers of one session about an element type: within a budget, within one more, and within that again.
+/// Asks about an element type within a budget, within one more, and within that again.
+fn ask_thrice<L: Ledger>(
+    alloc: Global,
+    session: &mut Session,
+    steps: &mut Steps<L>,
+    element: &Spec,
+    budget: u16,
+    out: &mut String,
+) -> Option<()>
+    requires { structures_in session.old ≡ [] }
+    ensures { structures_in session.new ≡ [] }
+{
+    let more = budget.checked_add(1)?;
+    ask(alloc, session, steps, element, budget, out)?;
+    ask(alloc, session, steps, element, more, out)?;
+    ask(alloc, session, steps, element, more, out)
+}
+
+/// The answers of one session about an element type. It does nothing else: a function that owns a session is dear to
+/// prove.
 fn answers_by<L: Ledger>(
     alloc: Global,
     element: &Spec,
@@ -68,10 +86,7 @@ fn answers_by<L: Ledger>(
 {
     let mut session = Session::new(alloc, Tree::new(alloc)).ok()?;
     let mut steps = Steps::<L>::new(blank);
-    let more = budget.checked_add(1)?;
-    ask(alloc, &mut session, &mut steps, element, budget, out)?;
-    ask(alloc, &mut session, &mut steps, element, more, out)?;
-    ask(alloc, &mut session, &mut steps, element, more, out)
+    ask_thrice(alloc, &mut session, &mut steps, element, budget, out)
 }
 
 /// Writes the answers of a session for each of a list, within the budget and within one more.
