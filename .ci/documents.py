@@ -127,7 +127,9 @@ def agrees(line, wanted):
     """Whether an answered line is of the wanted kind: which witness is printed is free."""
     said = line.split(' ', 1)[1]
     if wanted == 'NIL':
-        return said.startswith('NIL WITNESS ')
+        return said == 'NIL' or said.startswith('NIL WITNESS ')
+    if wanted == 'UNSURE':
+        return said == 'UNSURE' or said.startswith('NIL UNSURE ')
     return said == wanted or said.startswith(wanted + ' ')
 
 

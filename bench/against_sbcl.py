@@ -3,7 +3,8 @@
 
     bench/against_sbcl.py PROGRAM TEXT [RUNS]
 
-Both read the whole text; both answer each top-level `(subtypep 'a 'b)` in it (SBCL with its own SUBTYPEP). Printed are
+Both read the whole text; both answer each top-level `(subtypep 'a 'b)` and `(typep o 'a)` in it (SBCL with its own
+SUBTYPEP and TYPEP). Printed are
 the least processor seconds of some runs (3 by default), the start of the process included, and how the answers
 compare: by how many each says T and NIL, and for how many SBCL isn't sure. It is skipped where `sbcl` is missing. The
 two decide types by different rules (upgrading, which arrays and sequences there are, the kinds of objects), so the
@@ -21,8 +22,11 @@ LISP = '''
 (let ((*features* (list* :ansi-cl :common-lisp *features*)) (*package* (find-package :cl-user)))
   (with-open-file (text (second sb-ext:*posix-argv*) :external-format :utf-8)
     (loop for form = (read text nil text) until (eq form text)
-          do (when (and (consp form) (eq (first form) 'subtypep))
-               (multiple-value-bind (yes sure) (ignore-errors (subtypep (eval (second form)) (eval (third form))))
+          do (when (and (consp form) (member (first form) '(subtypep typep)))
+               (multiple-value-bind (yes sure)
+                   (ignore-errors (if (eq (first form) 'typep)
+                                      (values (typep (eval (second form)) (eval (third form))) t)
+                                      (subtypep (eval (second form)) (eval (third form)))))
                  (write-line (cond ((not sure) "UNSURE") (yes "T") (t "NIL"))))))))
 '''
 
@@ -45,6 +49,8 @@ def least(command, runs, stdin=None):
 
 def kind(line):
     words = line.split(' ', 3)
+    if words[1:3] == ['NIL', 'UNSURE']:
+        return 'UNSURE'
     return words[1] if len(words) > 1 else line
 
 

@@ -79,6 +79,8 @@ def asked_of_program(program, query, seconds):
     words = out.split()
     if len(words) < 2:
         return 'dies'
+    if words[1:3] == ['NIL', 'UNSURE']:
+        return 'unsure'
     return words[2] if words[1] == 'REFUSED' else words[1]
 
 

@@ -20,6 +20,9 @@
                                   2 N queries of two of their names
     bench/queries.py deepest N    N DEFTYPEs, each of which nests its argument 250 lists deep and hands it to the next;
                                   with 44 the data are as deep as the room of a query lets them be
+    bench/queries.py predicates N N queries of two types with three predicates among them
+    bench/queries.py marks N      one query: the AND of N predicates against T
+    bench/queries.py objects N    N queries of TYPEP, of numbers, lists and strings
 """
 import itertools
 import os
@@ -144,8 +147,33 @@ def deepest(count):
     ask('(t0 t)', 't')
 
 
+def predicates(count):
+    rng = random.Random(1)
+    for _ in range(count):
+        a, b, c = (f'(satisfies {name})' for name in rng.sample(['p', 'q', 'r'], 3))
+        lo, hi = rng.randint(-50, 0), rng.randint(1, 50)
+        ask(f'(and (integer {lo} {hi}) {a})', rng.choice([f'(or (integer 0 *) {b})', f'(and integer (or {a} {c}))',
+                                                          f'(or (not {b}) (and {b} {a}))']))
+
+
+def marks(count):
+    ask(joined('and', [f'(satisfies p{n})' for n in range(count)]), 't')
+
+
+def objects(count):
+    rng = random.Random(1)
+    for n in range(count):
+        a, b = rng.randint(-1000, 1000), rng.randint(-1000, 1000)
+        object, type_ = rng.choice([
+            (f'{a}', f'(integer * {b})'), (f"'({a} {b})", f'(cons (integer {b}) (cons integer null))'),
+            (f'"{a}"', f'(or (string {len(str(b))}) (vector bit))'), (f"'s{n}", f'(member s{n} {a})'),
+            (f'{a}/7', "(and rational (not integer))"), (f'#({a} {b})', '(simple-array t (2))')])
+        print(f"(typep {object} '{type_})")
+
+
 BY_NAME = {'member': member, 'conses': conses, 'nots': nots, 'overlaps': overlaps, 'places': places, 'arrays': arrays,
-           'elements': elements, 'deftypes': deftypes, 'structs': structs, 'deepest': deepest}
+           'elements': elements, 'deftypes': deftypes, 'structs': structs, 'deepest': deepest, 'predicates': predicates,
+           'marks': marks, 'objects': objects}
 
 
 def main(kind, count):

@@ -13,4 +13,5 @@
 (subtypep '(float 0.0 1.0) 'float)                                ; => REFUSED FLOAT-RANGE
 (subtypep '(integer 0 18446744073709551617) t)                    ; => REFUSED NUMBER-TOO-WIDE
 (subtypep '(vector (member 1 2)) '(array (unsigned-byte 7) 1))    ; => T
-(subtypep '(satisfies evenp) 'integer)                            ; => REFUSED NOT-BUILT
+(subtypep '(and integer (satisfies evenp)) 'integer)              ; => T
+(subtypep 'bit '(satisfies evenp))                                ; => UNSURE

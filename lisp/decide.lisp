@@ -90,7 +90,7 @@ list of lists with what DECIDE gives. DEFINITIONS and BUDGET are as in DECIDE."
   "Decides whether the type FIRST is included in the type SECOND. Values:
    T, T, NIL: it is.
    NIL, T, and a witness, an object of FIRST that is not in SECOND, or its text where this image cannot read it.
-   NIL, NIL, and a keyword that tells why it is not decided, as :NOT-BUILT, :STAR-NOT-ALLOWED, :TOO-LARGE or :UNSURE.
+   NIL, NIL, and a keyword that tells why it is not decided, as :STAR-NOT-ALLOWED, :TOO-LARGE or :UNSURE.
 The fourth value is what the program's line says. DEFINITIONS are forms such as DEFTYPE and DEFSTRUCT, or strings with
 such forms, that stand before the query. BUDGET is the greatest cost of a query that is decided."
   (values-list (first (decide-all (list (list first second)) :definitions definitions :budget budget))))
