@@ -2,7 +2,8 @@
 use Rattle.std.proofs.Common.{ℕ, min, ◌≡◌, ◌≤◌, ◌+◌, ◌-◌, ◌^◌, refl, sym, ◌∙◌, ap, subst, arith, List, [], ◌∷◌, ◌++◌, append_assoc, append-nil, length, Bool, true, false, ◌||◌, ◌&&◌, ◌==◌, if◌then◌else◌, Option, None, Some, nat_eq}
 use Rattle.std.specs.List.{list_any}
 use Rattle.std.specs.Cmp.Lexicographic.{pointwise}
-use Rattle.std.proofs.lemmas.List.Sums.{sum_by_push}
+use Rattle.std.proofs.lemmas.List.{length-map}
+use Rattle.std.proofs.lemmas.List.Sums.{sum_by-cons, sum_by_push}
 use Rattle.ls_object.specs.Universe.{Structures}
 use Rattle.ls_object.proofs.SymbolLemmas.{Decides-text}
 use Rattle.ls_spec.specs.Specifier.{Specifier}
@@ -178,3 +179,17 @@ counted_more known old new ids cells count more now c e f g =
 pub rows_more : (known : List Specifier) (old new : Memo) (ids : List ℕ) (cells : Cells) (before now : ℕ) → new ≡ old ++ (ids, cells) ∷ [] → length cells.rows + before ≤ now → count_rows (entries_of known new) + before ≤ count_rows (entries_of known old) + now
 rows_more known old new ids cells before now e f =
     let h = ap (λ m. count_rows (entries_of known m)) e ∙ count_last known old ids cells in omega arith
+
+-- each kept list has a row, so there are as many rows as kept lists, or more
+kept_rows : (structures : Structures) (known : List Specifier) (memo : Memo) → AllKept structures known memo → length memo ≤ count_rows (entries_of known memo)
+kept_rows structures known [] h = omega arith
+kept_rows structures known (x ∷ memo) h =
+    let some = h.0.1.right.some in
+    let more = kept_rows structures known memo h.1 in
+    let e = sum_by-cons (λ e. length e.1) (specifiers_at known x.0, x.1.rows) (entries_of known memo) in omega arith
+
+-- and so of what is counted, where there are no more lists than the greatest u64
+pub kept_counted : (structures : Structures) (known : List Specifier) (memo : Memo) (count : ℕ) → AreKept structures known memo → AreCounted known memo count → length memo ≤ 2 ^ 64 - 1 → length (entries_of known memo) ≤ count
+kept_counted structures known memo count k c within =
+    let h = kept_rows structures known memo k.each in
+    let e : length (entries_of known memo) ≡ length memo = length-map memo (λ (e : List ℕ × Cells). (specifiers_at known e.0, e.1.rows)) in omega arith

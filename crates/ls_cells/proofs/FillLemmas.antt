@@ -25,7 +25,7 @@ use Rattle.ls_cells.specs.steps.Filling.{MayMake, Makes, Fills}
 use Rattle.ls_cells.proofs.BeganLemmas.{began_start, began_cars, began_cdrs, began_own, began_all, own_walked, sides_done}
 use Rattle.ls_cells.proofs.CountLemmas.{at_most_rows}
 use Rattle.ls_cells.proofs.DescentLemmas.{fit_cars, fit_cdrs, codes_cars, codes_cdrs}
-use Rattle.ls_cells.proofs.MakeLemmas.{made_wide}
+use Rattle.ls_cells.proofs.MakeLemmas.{made_wide, made_some}
 use Rattle.ls_cells.proofs.EntryLemmas.{none_kept, kept_more, keys_last, grows_none, grows_both}
 
 abbrev Memo : Type 0
@@ -180,7 +180,7 @@ cars_coded known list shown codes e h = subst (All (HasCodes codes)) (sym e) (co
 pub cdrs_coded : (known list : List Specifier) (shown : List ℕ) (codes : Codes) → specifiers_at known shown ≡ cdrs_of list → All (HasCodes codes) list → All (HasCodes codes) (specifiers_at known shown)
 cdrs_coded known list shown codes e h = subst (All (HasCodes codes)) (sym e) (codes_cdrs codes list h)
 
--- the cells of a list that was made are right, and its rows no more than it may have
+-- the cells of a list that was made are right, and its rows no more than it may have, and one at least
 pub made_cells : (structures : Structures) (known list : List Specifier) (atoms cars cdrs : List ℕ) (codes : List (List ℕ × Code)) (memo : Memo) (found : List Row) (cells : Cells) (s0 s1 : ℕ) → MayMake structures known list atoms cars cdrs codes memo
     → ((learnt : Learnt) → All (IsLearnt structures learnt) (atoms_of list) → AreRowsOf structures learnt (atoms_of list) found) → AreDifferent found
     → length found + s0 ≤ s1 → s1 ≤ s0 + 2 ^ predicates list * (candidates list + rows (cars_of list) * rows (cdrs_of list)) → cells.atoms ≡ atoms → cells.rows ≡ found → AreCellsOf structures known list cells
@@ -188,6 +188,7 @@ made_cells structures known list atoms cars cdrs codes memo found cells s0 s1 m 
     let right : AreRightFor structures list found = record {
       are = f;
       few = at_most_rows list found m.some (made_wide structures known list atoms cars cdrs codes memo found m f) different (omega arith);
+      some = made_some structures known list atoms cars cdrs codes memo found m f;
     } in
     record {
       below = subst (AllBelow (length known)) (sym e) m.sides.atoms_below;

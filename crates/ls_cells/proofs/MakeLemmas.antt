@@ -48,6 +48,12 @@ rows_of_all structures learnt atoms flat all first second = record { each = seco
 pub rows_wide : (structures : Structures) (learnt : Learnt) (atoms : List Specifier) (found : List Row) → AreRowsOf structures learnt atoms found → All (λ r. length r.signs ≡ length atoms) found
 rows_wide structures learnt atoms found are k d lt = let h = are.each k d lt in ap length h.signs ∙ length-map atoms _
 
+-- there is a row, since a character is an object
+rows_there : (structures : Structures) (learnt : Learnt) (atoms : List Specifier) (found : List Row) → AreRowsOf structures learnt atoms found → 1 ≤ length found
+rows_there structures learnt atoms found are =
+    let h = (are.all (node [] (character 97)) (tt, refl)).1 in
+    let e = length-map found (λ (r : Row). r.signs) in omega arith
+
 times_some : (a b : ℕ) → 1 ≤ a → 1 ≤ b → 1 ≤ a * b
 times_some (suc a) (suc b) h k = omega arith
 times_some zero b h k = absurd (omega arith)
@@ -196,12 +202,23 @@ atoms_fit structures known list atoms cars cdrs codes memo specs m e =
 pub atoms_coded : (structures : Structures) (known list : List Specifier) (atoms cars cdrs : List ℕ) (codes : List (List ℕ × Code)) (memo : List (List ℕ × Cells)) → MayMake structures known list atoms cars cdrs codes memo → All (HasCodes (codes_of known codes)) (specifiers_at known atoms)
 atoms_coded structures known list atoms cars cdrs codes memo m = subst (All (HasCodes (codes_of known codes))) (sym m.sides.atoms_are) (codes_atoms (codes_of known codes) list m.learnt)
 
+-- the rows that are made of a list are right where what was learnt is what the codes that the store has learnt say
+made_right : (structures : Structures) (known list : List Specifier) (atoms cars cdrs : List ℕ) (codes : List (List ℕ × Code)) (memo : List (List ℕ × Cells)) (found : List Row) → MayMake structures known list atoms cars cdrs codes memo
+    → ((learnt : Learnt) → All (IsLearnt structures learnt) (atoms_of list) → AreRowsOf structures learnt (atoms_of list) found) → AreRowsOf structures (learnt_by structures (codes_of known codes)) (atoms_of list) found
+made_right structures known list atoms cars cdrs codes memo found m f =
+    f (learnt_by structures (codes_of known codes)) (codes_are_all structures (codes_of known codes) (atoms_of list) m.right.right m.kept.order (codes_atoms (codes_of known codes) list m.learnt))
+
 -- right rows of a list are as wide as its atoms
 pub made_wide : (structures : Structures) (known list : List Specifier) (atoms cars cdrs : List ℕ) (codes : List (List ℕ × Code)) (memo : List (List ℕ × Cells)) (found : List Row) → MayMake structures known list atoms cars cdrs codes memo
     → ((learnt : Learnt) → All (IsLearnt structures learnt) (atoms_of list) → AreRowsOf structures learnt (atoms_of list) found) → All (λ r. length r.signs ≡ length (atoms_of list)) found
 made_wide structures known list atoms cars cdrs codes memo found m f =
-    let learnt = learnt_by structures (codes_of known codes) in
-    rows_wide structures learnt (atoms_of list) found (f learnt (codes_are_all structures (codes_of known codes) (atoms_of list) m.right.right m.kept.order (codes_atoms (codes_of known codes) list m.learnt)))
+    rows_wide structures (learnt_by structures (codes_of known codes)) (atoms_of list) found (made_right structures known list atoms cars cdrs codes memo found m f)
+
+-- and there is at least one
+pub made_some : (structures : Structures) (known list : List Specifier) (atoms cars cdrs : List ℕ) (codes : List (List ℕ × Code)) (memo : List (List ℕ × Cells)) (found : List Row) → MayMake structures known list atoms cars cdrs codes memo
+    → ((learnt : Learnt) → All (IsLearnt structures learnt) (atoms_of list) → AreRowsOf structures learnt (atoms_of list) found) → 1 ≤ length found
+made_some structures known list atoms cars cdrs codes memo found m f =
+    rows_there structures (learnt_by structures (codes_of known codes)) (atoms_of list) found (made_right structures known list atoms cars cdrs codes memo found m f)
 
 -- the steps of the flat objects, and those of the conses behind them
 pub flat_most : (known list : List Specifier) (atoms : List ℕ) (specs : List Spec) (s0 s1 : ℕ) → specifiers_at known atoms ≡ atoms_of list → map specifier specs ≡ specifiers_at known atoms → s1 ≤ s0 + candidates_of_atoms (map specifier specs) → s1 ≤ s0 + candidates list

@@ -43,11 +43,13 @@ codes_in stored = stored.1.1.0
 abbrev pub entries_in : Stored → Entries
 entries_in stored = stored.1.1.1
 
--- rows are right for a list, where what was learnt of its atoms is right, and are no more than it may have
+-- rows are right for a list, where what was learnt of its atoms is right; they are no more than it may have, and at
+-- least one, since some object exists
 pub record AreRightFor (structures : Structures) (list : List Specifier) (found : List Row) : Type 0 where
   pub are : (learnt : Learnt) → All (IsLearnt structures learnt) (atoms_of list)
       → AreRowsOf structures learnt (atoms_of list) found
   pub few : length found ≤ rows list
+  pub some : 1 ≤ length found
 
 -- these are the atoms of a list, by their numbers in a table, and right rows for it
 pub record AreCellsOf (structures : Structures) (known list : List Specifier) (cells : Cells) : Type 0 where

@@ -126,10 +126,13 @@ impl Store {
         self.kept.memo.len()
     }
 
-    /// How many rows are kept, or the greatest u64 where they are more.
+    /// How many rows are kept, or the greatest u64 where they are more. It is at least the number of lists for which
+    /// rows are kept, since each of them has a row.
     pub fn rows(&self) -> u64
-        ensures { result ≡ min (count_rows (entries_in self.now)) (2 ^ 64 - 1) }
+        ensures count { result ≡ min (count_rows (entries_in self.now)) (2 ^ 64 - 1) }
+        ensures some { length (entries_in self.now) ≤ result }
     {
+        let _lists = self.kept.memo.len();
         self.kept.rows
     }
 

@@ -67,9 +67,11 @@ impl Session {
         })
     }
 
-    /// How many rows are kept, of all lists together; the greatest u64 where they are more.
+    /// How many rows are kept, of all lists together; the greatest u64 where they are more. It is at least the number of
+    /// lists for which rows are kept, since each of them has a row.
     pub fn rows(&self) -> u64
-        ensures { result ≡ min (count_rows (entries_in self.now)) (2 ^ 64 - 1) }
+        ensures count { result ≡ min (count_rows (entries_in self.now)) (2 ^ 64 - 1) }
+        ensures some { length (entries_in self.now) ≤ result }
     {
         self.store.rows()
     }
