@@ -2,6 +2,11 @@ mod AppendLemmas
 mod WordLemmas
 mod LineLemmas
 mod ReportLemmas
+mod WithinLemmas
+mod ChargeLemmas
+mod StopLemmas
+mod TallyLemmas
+mod GeneratedLemmas
 mod ToldLemmas
 mod EndingLemmas
 mod CalmLemmas

@@ -9,7 +9,8 @@ use Rattle.ls_env.specs.Environments.{Environment}
 use Rattle.subtypep_app.specs.Report.{AreReported, IsLineOf, line_text, lines_text, is_finding}
 use Rattle.subtypep_app.specs.steps.Reporting.{LineAppended}
 
-AllZip-push : {A B : Type 0} (R : A → B → Type 0) (xs : List A) (ys : List B) (x : A) (y : B) → AllZip R xs ys → R x y → AllZip R (xs ++ x ∷ []) (ys ++ y ∷ [])
+-- one more pair of items that are alike
+pub AllZip-push : {A B : Type 0} (R : A → B → Type 0) (xs : List A) (ys : List B) (x : A) (y : B) → AllZip R xs ys → R x y → AllZip R (xs ++ x ∷ []) (ys ++ y ∷ [])
 AllZip-push R [] [] x y p h = (h, tt)
 AllZip-push R [] (b ∷ ys) x y p h = absurd p
 AllZip-push R (a ∷ xs) [] x y p h = absurd p

@@ -1,8 +1,10 @@
 -- What a source told of its text, and the bytes of the fixed lines.
-use Rattle.std.proofs.Common.{◌≡◌, ℕ, ◌+◌, ◌<◌, ◌≤◌, List, [], ◌++◌, length, Option, Some, None, refl, ap, sym, ◌∙◌, arith, length-append, append-nil}
+use Rattle.std.proofs.Common.{◌≡◌, ℕ, ◌+◌, ◌<◌, ◌≤◌, List, [], ◌++◌, length, Option, Some, None, Result, Err, refl, ap, sym, ◌∙◌, arith, length-append, append-nil}
 use Rattle.std.specs.Prelude.{encode_utf8_all}
 use Rattle.std.specs.Io.KnownBytes.{IsAtEnd}
 use Rattle.std.proofs.Math.Utf8.{encode}
+use Rattle.ls_io.specs.declared.all.ReadFault.{ReadFault}
+use Rattle.ls_io.specs.declared.all.ReadFault.TheVariants as fault
 use Rattle.ls_io.specs.Moves.{limit, Gave, GaveCount}
 use Rattle.subtypep_app.specs.Report.{too_long_text}
 use Rattle.subtypep_app.specs.Replies.{usage_text, IsTold}
@@ -35,6 +37,13 @@ told_too_long before now gave =
     let told = told_long before now gave.0 gave.2 in
     let long : limit < length told.0 = omega (arith, told.2, gave.1) in
     (told.0, told.1, long)
+
+-- a text that is too long is no failed read
+pub too_long_no_fault : {A : Type 0} (r : Result A ReadFault) (x : ReadFault) → r ≡ Err x → x ≡ fault.TooLong → r ≡ Err fault.Fault → ⊥
+too_long_no_fault r x is long e =
+    let both : x ≡ fault.Fault = (let joined = sym is ∙ e in cc) in
+    let apart : fault.TooLong ≡ fault.Fault = sym long ∙ both in
+    cc
 
 -- what is told is one text
 pub IsTold-unique : (left : Option (List ℕ)) (told text : List ℕ) → left ≡ Some told → IsTold left text → told ≡ text

@@ -1,5 +1,5 @@
 -- What a run answers where no call fails.
-use Rattle.std.specs.Prelude.{◌≡◌, ℕ, ◌<◌, ◌≤◌, ◌⊎◌, ⊤, List, length, Some}
+use Rattle.std.specs.Prelude.{◌≡◌, ℕ, ◌<◌, ◌≤◌, ◌⊎◌, ⊤, List, length, Option, Some}
 use Rattle.ls_io.specs.Moves.{limit}
 use Rattle.ls_reader.specs.declared.datum.Datum.{Datum}
 use Rattle.ls_reader.specs.Forms.{Forms}
@@ -7,15 +7,20 @@ use Rattle.ls_reader.specs.Answers.{HasNoForms}
 use Rattle.subtypep_app.specs.declared.status.Status.{Status}
 use Rattle.subtypep_app.specs.declared.status.Status.TheVariants.{Clean, Found, Unreadable, Memory}
 use Rattle.subtypep_app.specs.declared.words.Command.{Command}
-use Rattle.subtypep_app.specs.declared.words.Command.TheVariants.{Ask}
+use Rattle.subtypep_app.specs.declared.words.Command.TheVariants.{Ask, Gen}
 use Rattle.subtypep_app.specs.Words.{Means}
 use Rattle.subtypep_app.specs.Runs.{Outside, ReadFailed, WriteFailed, HasReplied}
 use Rattle.subtypep_app.specs.Deciding.{AllDecided}
 
+-- the source told this text, if the command reads one
+abbrev pub TellsText : Command → Option (List ℕ) → List ℕ → Type 0
+TellsText (Ask budget) left text = left ≡ Some text
+TellsText (Gen count budget) left text = ⊤
+
 -- The words mean this command, the source told this text, and no call failed.
 pub record NoCallFailed (words : List (List ℕ)) (command : Command) (text : List ℕ) (before now : Outside) : Type 0 where
   pub meant : Means words command
-  pub told : before.left ≡ Some text
+  pub told : TellsText command before.left text
   pub reads : ReadFailed before now → ⊥
   pub writes : WriteFailed before now → ⊥
 
@@ -43,6 +48,7 @@ pub record IsAnsweredOrRefused (text : List ℕ) (status : Status) : Type 0 wher
 
 abbrev pub IsCompleteFor : Command → List ℕ → Status → Type 0
 IsCompleteFor (Ask budget) text status = IsAnsweredOrRefused text status
+IsCompleteFor (Gen count budget) text status = IsAnsweredBy status
 
 -- the status says what the command asks to be told, where no call failed
 abbrev pub IsComplete : List (List ℕ) → Outside → Outside → Status → Type 0

@@ -1,6 +1,8 @@
 pub mod Words
 pub mod Queries
 pub mod Report
+pub mod Charges
+pub mod Tallies
 pub mod Replies
 pub mod Runs
 pub mod Deciding

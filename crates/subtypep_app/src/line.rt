@@ -7,12 +7,14 @@ ghost use Rattle.subtypep_app.specs.Queries.{inclusion, membership};
 ghost use Rattle.subtypep_app.specs.Report.{IsRightLine, IsLineOf, is_finding};
 ghost use Rattle.subtypep_app.specs.steps.Asking.{line_of_stop, line_of_no_object};
 ghost use Rattle.subtypep_app.specs.steps.Lines.{IsPlainLine};
+ghost use Rattle.subtypep_app.specs.steps.Charging.{SpendsOn, HasSpent};
 
 use crate::decider::Decider;
 use crate::query::{Question, question_of};
 use ls_decide::{Answer, Belongs};
 use ls_env::{Env, Query};
 use ls_grammar::{ObjectRefusal, Refusal, Stop, object_of, resolve};
+use ls_memo::Steps;
 use ls_reader::Datum;
 use std::alloc::{AllocError, Global};
 use std::sync::ledger::Ledger;
@@ -74,7 +76,8 @@ fn no_object_line(refusal: ObjectRefusal) -> Result<Line, AllocError>
 fn inclusion_line<L: Ledger>(
     alloc: Global,
     env: &Env,
-    decider: &mut Decider<L>,
+    decider: &mut Decider,
+    steps: &mut Steps<L>,
     first: &Datum,
     second: &Datum,
 ) -> Result<Line, AllocError>
@@ -83,6 +86,8 @@ fn inclusion_line<L: Ledger>(
     ensures structures { structures_in decider.new.session ≡ structures_in decider.old.session }
     ensures keeps { Grows (entries_in decider.old.session) (entries_in decider.new.session) }
     ensures right { IfOk result (IsRightLine decider.old.budget env.now (inclusion first.now second.now)) }
+    ensures spends { IfOk result (λ line. SpendsOn decider.old.budget env.now (inclusion first.now second.now)
+        (entries_in decider.old.session) (entries_in decider.new.session) steps.old steps.new) }
     ensures plain { IfOk result IsPlainLine }
 {
     let a = match resolve(alloc, env, first) {
@@ -93,14 +98,15 @@ fn inclusion_line<L: Ledger>(
         Ok(spec) => spec,
         Err(stop) => return stopped_line(stop),
     };
-    Ok(Line::Answered(decider.answer(&a, &b)?))
+    Ok(Line::Answered(decider.answer(&a, &b, steps)?))
 }
 
 /// The line on whether the object of the first datum belongs to the type of the second.
 fn membership_line<L: Ledger>(
     alloc: Global,
     env: &Env,
-    decider: &mut Decider<L>,
+    decider: &mut Decider,
+    steps: &mut Steps<L>,
     object: &Datum,
     of: &Datum,
 ) -> Result<Line, AllocError>
@@ -109,6 +115,8 @@ fn membership_line<L: Ledger>(
     ensures structures { structures_in decider.new.session ≡ structures_in decider.old.session }
     ensures keeps { Grows (entries_in decider.old.session) (entries_in decider.new.session) }
     ensures right { IfOk result (IsRightLine decider.old.budget env.now (membership object.now of.now)) }
+    ensures spends { IfOk result (λ line. SpendsOn decider.old.budget env.now (membership object.now of.now)
+        (entries_in decider.old.session) (entries_in decider.new.session) steps.old steps.new) }
     ensures plain { IfOk result IsPlainLine }
 {
     let object = match object_of(alloc, object) {
@@ -119,14 +127,15 @@ fn membership_line<L: Ledger>(
         Ok(spec) => spec,
         Err(stop) => return stopped_line(stop),
     };
-    Ok(Line::Placed(decider.place(&object, &s)?))
+    Ok(Line::Placed(decider.place(&object, &s, steps)?))
 }
 
 /// A right line for a query.
 pub(crate) fn line_of<L: Ledger>(
     alloc: Global,
     env: &Env,
-    decider: &mut Decider<L>,
+    decider: &mut Decider,
+    steps: &mut Steps<L>,
     query: &Query,
 ) -> Result<Line, AllocError>
     requires structures { structures_in decider.old.session ≡ structures_of env.now }
@@ -134,11 +143,17 @@ pub(crate) fn line_of<L: Ledger>(
     ensures structures { structures_in decider.new.session ≡ structures_in decider.old.session }
     ensures keeps { Grows (entries_in decider.old.session) (entries_in decider.new.session) }
     ensures right { IfOk result (IsLineOf decider.old.budget env.now query.now) }
+    ensures spends { IfOk result (λ line. HasSpent decider.old.budget env.now query.now
+        (entries_in decider.old.session) (entries_in decider.new.session) steps.old steps.new) }
     ensures plain { IfOk result IsPlainLine }
 {
     match question_of(query) {
-        Question::Inclusion(first, second) => { inclusion_line(alloc, env, decider, first, second) }
-        Question::Membership(object, of) => { membership_line(alloc, env, decider, object, of) }
+        Question::Inclusion(first, second) => {
+            inclusion_line(alloc, env, decider, steps, first, second)
+        }
+        Question::Membership(object, of) => {
+            membership_line(alloc, env, decider, steps, object, of)
+        }
         Question::Refused(refusal) => Ok(Line::Refused(refusal)),
     }
 }

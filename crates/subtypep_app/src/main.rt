@@ -12,17 +12,20 @@ mod query;
 // The answer to a query.
 mod decider;
 
-// The line of a query and its text, and the report of a text.
+// The line of a query and its text, the report of a text, and that of the generated one.
 mod line;
 mod report;
+mod tally;
 #[cfg(test)]
 mod tests;
 mod text;
 
-use app::run;
+use app::run_counted;
 use ls_io::{StdSink, StdSource};
 use status::Status;
+use std::marker::Brand;
 use std::process::ExitCode;
+use std::sync::ledger::Blank;
 use std::{env, io};
 
 /// The exit status where the words can't be had for another cause.
@@ -42,7 +45,13 @@ fn main(rt: HostRuntime) -> ExitCode {
         Ok(words) => {
             let mut source = StdSource::new(rt.stdin());
             let mut sink = StdSink::new(rt.stdout());
-            let status = run(rt.alloc(), &words, &mut source, &mut sink);
+            let status = run_counted::<_, _, Brand>(
+                rt.alloc(),
+                &words,
+                &mut source,
+                &mut sink,
+                Blank::new(1),
+            );
             ExitCode::from(status.number())
         }
         Err(error) if error.kind() == io::ErrorKind::OutOfMemory => ExitCode::from(

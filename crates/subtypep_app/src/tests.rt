@@ -5,16 +5,19 @@ mod arrays;
 mod budgets;
 mod conses;
 mod deftype;
+mod generated;
 mod members;
 mod predicates;
 mod refusals;
 mod streams;
 mod structures;
 
-use crate::app::run;
+use crate::app::run_counted;
 use crate::status::Status;
 use ls_io::{MemSink, MemSource};
 use std::alloc::{AllocError, Global};
+use std::marker::Brand;
+use std::sync::ledger::Blank;
 
 /// A query of two ranges of integers, and its report.
 pub(crate) const RANGES: &[u8] = b"(subtypep '(integer 0 10) '(integer (0) 10))";
@@ -75,7 +78,7 @@ pub(crate) fn outcome_of(alloc: Global, case: &Case) -> Result<Outcome, AllocErr
         case.write_piece.max(1),
         case.failing_writes,
     )?;
-    let status = run(alloc, &words, &mut source, &mut sink);
+    let status = run_counted::<_, _, Brand>(alloc, &words, &mut source, &mut sink, Blank::new(1));
     Ok(Outcome {
         status,
         left: source.left().len(),

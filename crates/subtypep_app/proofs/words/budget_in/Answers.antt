@@ -11,4 +11,4 @@ returns-in-len2 c =
     let words : c.args.options.now ≡ c.flag-item.result ∷ c.number-item.result ∷ [] = two_items _ _ _ c.in-len2.len_at_least c.in-len2.len_below c.flag-item.is c.number-item.is in
     let option : string_bytes c.flag-item.result ≡ codes "--budget" = sym c.as_str.ensures.value ∙ (bytes_eq-Decides _ _).0 (sym c.if-eq.ensures) in
     let texts_are : texts c.args.options.now ≡ codes "--budget" ∷ c.as_str-in-len2.result.now ∷ [] = ap texts words ∙ (λ i. option i ∷ sym c.as_str-in-len2.ensures.value i ∷ []) in
-    named_budget _ _ c.budget_of.result texts_are c.budget_of.ensures
+    named_budget _ _ c.number_in.result texts_are c.number_in.ensures
