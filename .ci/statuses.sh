@@ -27,13 +27,19 @@ echo "(subtypep 'bit" | "$program" ask >"$folder/out" 2>&1; code=$?
 ended 'an unreadable text' 3 'FAULT UNCLOSED 1:1'
 : | "$program" ask >"$folder/out" 2>&1; code=$?
 ended 'an empty text' 0 ''
-for words in '' 'answer' 'ask ask' 'ask --budget 0' 'ASK'; do
+for words in '' 'answer' 'ask ask' 'ask --budget 0' 'ASK' 'gen' 'gen 0' 'gen 4097' 'gen 4 --budget'; do
     # The words are split at their blanks.
     echo "$answered" | "$program" $words >"$folder/out" 2>&1; code=$?
     ended "the words '$words'" 2 "$usage"
 done
 "$program" ask <&- >"$folder/out" 2>&1; code=$?
 ended 'a closed input' 4 ''
+"$program" gen 4 --budget 34 <&- >"$folder/out" 2>&1; code=$?
+ended 'a generated text beyond the budget' 1 'QUERIES 8
+T 0
+NIL 0
+TOO-LARGE 8
+ROWS 0'
 if [ -w /dev/full ]; then
     : >"$folder/out"
     echo "$answered" | "$program" ask >/dev/full 2>"$folder/out"; code=$?

@@ -115,6 +115,12 @@ ran; is 'no words' 2 'usage: subtypep_app ask|check|gen N [--budget N]' ''
 ran ask --budget 0; is 'a wrong budget' 2 'usage: subtypep_app ask|check|gen N [--budget N]' ''
 ran ask --budget 0 plain.lisp; is 'a wrong budget and a file' 2 '' \
     'selvdrik: the program does not take these words; selvdrik --help tells them'
+ran gen 4 --budget 34; is 'a generated text beyond the budget' 1 'QUERIES 8
+T 0
+NIL 0
+TOO-LARGE 8
+ROWS 0' ''
+ran gen 4 plain.lisp; is 'gen and a file' 2 '' 'selvdrik: gen reads no file; selvdrik --help tells the words'
 ran --wrong plain.lisp; is 'a wrong option' 2 '' 'selvdrik: there is no option --wrong; selvdrik --help tells the words'
 ran --expect; is 'expectations of no file' 2 '' \
     'selvdrik: --expect and --github need a file (- is standard input); selvdrik --help tells the words'

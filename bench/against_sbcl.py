@@ -4,10 +4,9 @@
     bench/against_sbcl.py PROGRAM TEXT [RUNS]
 
 Both read the whole text; both answer each top-level `(subtypep 'a 'b)` and `(typep o 'a)` in it (SBCL with its own
-SUBTYPEP and TYPEP). Printed are
-the least processor seconds of some runs (3 by default), the start of the process included, and how the answers
-compare: by how many each says T and NIL, and for how many SBCL isn't sure. It is skipped where `sbcl` is missing. The
-two decide types by different rules (upgrading, which arrays and sequences there are, the kinds of objects), so the
+SUBTYPEP and TYPEP, after it has evaluated the DEFTYPEs). Printed are the least processor seconds of some runs (3 by
+default), the start of the process included, and how the answers compare: by how many each says T and NIL, and for how
+many SBCL isn't sure. It is skipped where `sbcl` is missing. The two decide types by different rules (upgrading, which arrays and sequences there are, the kinds of objects), so the
 answers may differ where such a rule matters: of the queries of examples/arrays.lisp they do for one, on SEQUENCE.
 """
 import collections
@@ -22,7 +21,8 @@ LISP = '''
 (let ((*features* (list* :ansi-cl :common-lisp *features*)) (*package* (find-package :cl-user)))
   (with-open-file (text (second sb-ext:*posix-argv*) :external-format :utf-8)
     (loop for form = (read text nil text) until (eq form text)
-          do (when (and (consp form) (member (first form) '(subtypep typep)))
+          do (when (and (consp form) (eq (first form) 'deftype)) (eval form))
+             (when (and (consp form) (member (first form) '(subtypep typep)))
                (multiple-value-bind (yes sure)
                    (ignore-errors (if (eq (first form) 'typep)
                                       (values (typep (eval (second form)) (eval (third form))) t)

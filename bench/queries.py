@@ -23,6 +23,7 @@
     bench/queries.py predicates N N queries of two types with three predicates among them
     bench/queries.py marks N      one query: the AND of N predicates against T
     bench/queries.py objects N    N queries of TYPEP, of numbers, lists and strings
+    bench/queries.py generated N  the text that the program's own `gen N` answers: N DEFTYPEs and 2 N queries
 """
 import itertools
 import os
@@ -171,9 +172,16 @@ def objects(count):
         print(f"(typep {object} '{type_})")
 
 
+def generated(count):
+    for i in range(count):
+        print(f"(deftype g{i} () '(cons (integer 0 {i}) (or null (cons (eql {i}) t))))")
+        print(f"(subtypep 'g{i} '(cons integer list))")
+        print(f"(subtypep 'g{i} 'g{(7 * i + 3) % count})")
+
+
 BY_NAME = {'member': member, 'conses': conses, 'nots': nots, 'overlaps': overlaps, 'places': places, 'arrays': arrays,
            'elements': elements, 'deftypes': deftypes, 'structs': structs, 'deepest': deepest, 'predicates': predicates,
-           'marks': marks, 'objects': objects}
+           'marks': marks, 'objects': objects, 'generated': generated}
 
 
 def main(kind, count):

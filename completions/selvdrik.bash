@@ -22,7 +22,7 @@ _selvdrik() {
             mapfile -t COMPREPLY < <(compgen -W "--budget --expect --explain --github --quiet --no-build --help --version" \
                 -- "$word") ;;
         *)
-            [ "$COMP_CWORD" = 1 ] && mapfile -t COMPREPLY < <(compgen -W ask -- "$word")
+            [ "$COMP_CWORD" = 1 ] && mapfile -t COMPREPLY < <(compgen -W "ask gen" -- "$word")
             compopt -o filenames 2>/dev/null
             local files
             mapfile -t files < <(compgen -f -X '!*.@(lisp|lsp|cl|asd)' -- "$word"; compgen -d -- "$word")
