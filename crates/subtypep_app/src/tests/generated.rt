@@ -12,7 +12,7 @@ use ls_gen::text_of;
 use ls_grammar::resolve;
 use ls_memo::Steps;
 use ls_reader::{Datum, Form, read_text};
-use std::alloc::Global;
+use std::alloc::{AllocError, Global};
 use std::marker::Brand;
 use std::sync::ledger::{Blank, Ledger};
 use std::test::Fail;
@@ -114,14 +114,14 @@ fn ask_each<L: Ledger>(
 }
 
 /// The rows of one new session that is asked all queries of a file.
-fn rows_by<L: Ledger>(alloc: Global, env: &Env, blank: Blank) -> Option<u64>
+fn rows_by<L: Ledger>(alloc: Global, env: &Env, blank: Blank) -> Result<Option<u64>, AllocError>
     requires name { blank.name ≡ L.name }
     requires parts { blank.parts ≡ L.parts }
     requires some { 0 < L.parts }
 {
     let mut steps = Steps::<L>::new(blank);
-    let mut session = Session::new(alloc, env.tree().copy().ok()?).ok()?;
-    ask_each(alloc, env, &mut session, &mut steps)
+    let mut session = Session::new(alloc, env.tree().copy()?)?;
+    Ok(ask_each(alloc, env, &mut session, &mut steps))
 }
 
 /// The rows of a session that is asked the queries of the generated text; None where one is no query of two types.
@@ -135,7 +135,7 @@ fn rows_of_session(alloc: Global, count: u64) -> Option<u64> {
     }
     let forms = read_text(alloc, text.as_slice()).ok()?;
     let env = Env::of_file(alloc, &forms).ok()?;
-    rows_by::<Brand>(alloc, &env, Blank::new(1))
+    rows_by::<Brand>(alloc, &env, Blank::new(1)).ok()?
 }
 
 #[test]
